@@ -1,0 +1,4 @@
+pub mod Text
+pub mod Canonical
+pub mod Machine
+pub mod Journal

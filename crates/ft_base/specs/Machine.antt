@@ -1,0 +1,34 @@
+-- What a servant is: a function of its state and a request, over the state's bytes.
+use Rattle.std.specs.Prelude.{◌≡◌, ℕ, ◌≤◌, Bool, true, List, ◌++◌, length, Option, Some, None}
+use Rattle.ft_base.specs.Canonical.{IsCanonical, one_of}
+use Rattle.ft_base.specs.declared.requests.Request.{Request}
+use Rattle.ft_base.specs.declared.requests.Outcome.{Outcome}
+use Rattle.ft_base.specs.declared.requests.Outcome.TheVariants.{Value, User}
+use Rattle.ft_base.specs.declared.requests.Signature.{Signature}
+
+-- a kind of servant
+pub record Machine : Type 0 where
+  -- the operations that there are
+  pub signature : List ℕ → Option Signature
+  -- whether these are the bytes of a state of this kind
+  pub is_state : List ℕ → Bool
+  -- the state after a request, and its outcome
+  pub step : List ℕ → Request → List ℕ × Outcome
+
+-- arguments are in the canonical form of an operation that there is
+abbrev pub FitsAs : Option Signature → List ℕ → Type 0
+FitsAs None args = ⊥
+FitsAs (Some signature) args = IsCanonical (one_of signature.first ++ one_of signature.second) args
+
+-- what a request must meet to be run
+abbrev pub Fits : Machine → Request → Type 0
+Fits machine request = FitsAs (machine.signature request.op) request.args
+
+-- an outcome's value is in the canonical form of what the operation gives, and at most 65,536 bytes long
+abbrev pub IsGivenAs : Option Signature → Outcome → Type 0
+IsGivenAs None outcome = ⊥
+IsGivenAs (Some signature) (Value value) = IsCanonical (one_of signature.gives) value × (length value ≤ 65536)
+IsGivenAs (Some signature) (User name) = Unit {0}
+
+abbrev pub IsGiven : Machine → Request → Outcome → Type 0
+IsGiven machine request outcome = IsGivenAs (machine.signature request.op) outcome
