@@ -1,21 +1,69 @@
--- The journal: the list of accepted requests, each with the tick of its acceptance.
-use Rattle.std.specs.Prelude.{◌≡◌, ℕ, ◌+◌, ◌<◌, ◌≤◌, ◌==◌, ◌&&◌, Bool, true, false, nat_lt, if◌then◌else◌, List, [], ◌∷◌, ◌++◌, length, take, map, slice_get, Option, Some, None, option_map}
+-- The journal of a group: the accepted requests in order, each with the tick of its acceptance.
+use Rattle.std.specs.Prelude.{◌≡◌, ℕ, ℤ, zero, suc, ◌+◌, ◌<◌, ◌≤◌, ◌==◌, ◌&&◌, Bool, true, false, nat_lt, if◌then◌else◌, List, [], ◌∷◌, slice_get, Option, Some, None, option_map}
+use Rattle.std.specs.Ordering.{int_eq}
 use Rattle.std.specs.Str.{bytes_eq}
 use Rattle.ft_base.specs.Machine.{Machine}
 use Rattle.ft_base.specs.declared.requests.Key.{Key}
 use Rattle.ft_base.specs.declared.requests.Request.{Request}
 use Rattle.ft_base.specs.declared.requests.Outcome.{Outcome}
+use Rattle.ft_base.specs.declared.requests.Outcome.TheVariants.{Value}
 
+-- an accepted request, and when it was accepted
 pub record Entry : Type 0 where
   pub at : ℕ
   pub request : Request
 
--- the state after these requests, from an opening state
+-- the state after these requests in order
 unfoldable pub after : Machine → List ℕ → List Entry → List ℕ
 after machine state [] = state
 after machine state (entry ∷ entries) = after machine (machine.step state entry.request).0 entries
 
--- the outcome of the request at a place, in the state after all before it
-unfoldable pub reply_at : Machine → List ℕ → List Entry → ℕ → Option Outcome
-reply_at machine opening journal i =
-    option_map (λ entry. (machine.step (after machine opening (take i journal)) entry.request).1) (slice_get journal i)
+-- the one reply of the request at a place: its outcome in the state after all requests before it
+-- (past the journal's end, an empty value)
+unfoldable pub reply_at : Machine → List ℕ → List Entry → ℕ → Outcome
+reply_at machine state [] i = Value []
+reply_at machine state (entry ∷ entries) zero = (machine.step state entry.request).1
+reply_at machine state (entry ∷ entries) (suc i) = reply_at machine (machine.step state entry.request).0 entries i
+
+-- an entry with a key of this client and retention id whose expiration is still to come
+abbrev pub is_held_by : ℕ → Key → Option Key → Bool
+is_held_by now key None = false
+is_held_by now key (Some other) =
+    (bytes_eq key.client other.client && int_eq key.retention.0 other.retention.0) && nat_lt now other.expiration.0
+
+abbrev pub is_held : ℕ → Key → Entry → Bool
+is_held now key entry = is_held_by now key entry.request.key
+
+-- the greatest place of a list at which a test holds
+abbrev pub later_or : Option ℕ → Bool → Option ℕ
+later_or None holds = if holds then Some 0 else None
+later_or (Some i) holds = Some (suc i)
+
+unfoldable pub last_place : {A : Type 0} → (A → Bool) → List A → Option ℕ
+last_place test [] = None
+last_place test (x ∷ xs) = later_or (last_place test xs) (test x)
+
+-- the place of the newest entry that holds a key's retention id, where one does
+abbrev pub held : List Entry → Key → ℕ → Option ℕ
+held journal key now = last_place (is_held now key) journal
+
+-- two keys name one logical invocation
+pub record IsOneCall (one other : Key) : Type 0 where
+  pub client : one.client ≡ other.client
+  pub retention : one.retention ≡ other.retention
+
+-- Each request with a key was accepted before its expiration; and a client's retention id was accepted
+-- again only once the expiration of the earlier acceptance had come.
+pub record AtMostOnce (journal : List Entry) : Type 0 where
+  pub in_time : (i : ℕ) (entry : Entry) (key : Key) → slice_get journal i ≡ Some entry → entry.request.key ≡ Some key
+      → entry.at < key.expiration.0
+  pub apart : (i j : ℕ) (early late : Entry) (first second : Key) → i < j
+      → slice_get journal i ≡ Some early → slice_get journal j ≡ Some late
+      → early.request.key ≡ Some first → late.request.key ≡ Some second → IsOneCall first second
+      → first.expiration.0 ≤ late.at
+
+-- what the admission asks of an entry with a key: its expiration is still to come, and no entry holds its
+-- retention id
+pub record CanJoin (journal : List Entry) (entry : Entry) : Type 0 where
+  pub in_time : (key : Key) → entry.request.key ≡ Some key → entry.at < key.expiration.0
+  pub free : (key : Key) → entry.request.key ≡ Some key → held journal key entry.at ≡ None
