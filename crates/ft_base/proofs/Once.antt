@@ -1,12 +1,12 @@
 -- At most once is kept by each request that the admission lets join the journal.
-use Rattle.std.proofs.Common.{◌≡◌, ℕ, ℤ, zero, suc, ◌+◌, ◌<◌, ◌≤◌, ◌⊎◌, inl, inr, ⊎_elim, Bool, true, false, cond, List, [], ◌∷◌, ◌++◌, length, Option, Some, None, refl, sym, ap, ◌∙◌, subst, arith, rules}
-use Rattle.std.specs.Prelude.{slice_get, ◌&&◌, nat_lt}
+use Rattle.std.proofs.Common.{◌≡◌, ℕ, zero, suc, ◌<◌, ◌≤◌, ◌⊎◌, inl, inr, ⊎_elim, Bool, true, false, List, [], ◌∷◌, ◌++◌, length, Option, Some, None, refl, sym, ap, ◌∙◌, subst, arith}
+use Rattle.std.specs.Prelude.{slice_get}
 use Rattle.std.specs.Ordering.{int_eq}
 use Rattle.std.specs.Str.{bytes_eq}
 use Rattle.std.proofs.lemmas.Bool.{ltb-false}
 use Rattle.std.proofs.lemmas.Bool.Decides.{Decides-int_eq}
 use Rattle.std.proofs.lemmas.Slice.Eq.{bytes_eq-Decides}
-use Rattle.ft_base.specs.Journal.{Entry, AtMostOnce, IsOneCall, held, is_held, is_held_by, last_place, later_or, CanJoin}
+use Rattle.ft_base.specs.Journal.{Entry, AtMostOnce, IsOneCall, is_held, is_held_by, last_place, later_or, CanJoin}
 use Rattle.ft_base.specs.declared.requests.Key.{Key}
 
 -- an element of a list with one more at its end is one of before, or the last
@@ -42,21 +42,21 @@ not_held now key other same h =
 
 pub AtMostOnce-push : (journal : List Entry) (entry : Entry) → AtMostOnce journal → CanJoin journal entry → AtMostOnce (journal ++ entry ∷ [])
 AtMostOnce-push journal entry once joins = record {
-    in_time = λ i e key g k.
+  in_time = λ i e key g k.
       ⊎_elim (λ p. once.in_time i e key p.1 k)
-        (λ p. subst (λ (x : Entry). x.at < key.expiration.0) p.1 (joins.in_time key (ap (λ (x : Entry). x.request.key) p.1 ∙ k)))
-        (got_of_push journal entry e i g);
-    apart = λ i j early late first second lt gi gj ki kj same.
+      (λ p. subst (λ (x : Entry). x.at < key.expiration.0) p.1 (joins.in_time key (ap (λ (x : Entry). x.request.key) p.1 ∙ k)))
+      (got_of_push journal entry e i g);
+  apart = λ i j early late first second lt gi gj ki kj same.
       ⊎_elim
-        (λ q. ⊎_elim (λ p. once.apart i j early late first second lt p.1 q.1 ki kj same)
-            (λ p. absurd (omega (arith, p.0, q.0)))
-            (got_of_push journal entry early i gi))
-        (λ q. ⊎_elim
-            (λ p. subst (λ (x : Entry). first.expiration.0 ≤ x.at) q.1
-                (not_held entry.at second first same
-                  (ap (is_held_by entry.at second) (sym ki)
-                    ∙ passes_nowhere (is_held entry.at second) journal i early (joins.free second (ap (λ (x : Entry). x.request.key) q.1 ∙ kj)) p.1)))
-            (λ p. absurd (omega (arith, p.0, q.0)))
-            (got_of_push journal entry early i gi))
-        (got_of_push journal entry late j gj);
-  }
+      (λ q. ⊎_elim (λ p. once.apart i j early late first second lt p.1 q.1 ki kj same)
+      (λ p. absurd (omega (arith, p.0, q.0)))
+      (got_of_push journal entry early i gi))
+      (λ q. ⊎_elim
+      (λ p. subst (λ (x : Entry). first.expiration.0 ≤ x.at) q.1
+      (not_held entry.at second first same
+      (ap (is_held_by entry.at second) (sym ki)
+      ∙ passes_nowhere (is_held entry.at second) journal i early (joins.free second (ap (λ (x : Entry). x.request.key) q.1 ∙ kj)) p.1)))
+      (λ p. absurd (omega (arith, p.0, q.0)))
+      (got_of_push journal entry early i gi))
+      (got_of_push journal entry late j gj);
+}

@@ -1,8 +1,9 @@
 -- The journal of a group: the accepted requests in order, each with the tick of its acceptance.
-use Rattle.std.specs.Prelude.{◌≡◌, ℕ, ℤ, zero, suc, ◌+◌, ◌<◌, ◌≤◌, ◌==◌, ◌&&◌, Bool, true, false, nat_lt, if◌then◌else◌, List, [], ◌∷◌, slice_get, Option, Some, None, option_map}
+use Rattle.std.specs.Prelude.{◌≡◌, ℕ, zero, suc, ◌<◌, ◌≤◌, ◌&&◌, Bool, false, nat_lt, if◌then◌else◌, List, [], ◌∷◌, slice_get, Option, Some, None}
 use Rattle.std.specs.Ordering.{int_eq}
+use Rattle.std.specs.List.{AllByRecursion}
 use Rattle.std.specs.Str.{bytes_eq}
-use Rattle.ft_base.specs.Machine.{Machine}
+use Rattle.ft_base.specs.Machine.{Machine, Fits}
 use Rattle.ft_base.specs.declared.requests.Key.{Key}
 use Rattle.ft_base.specs.declared.requests.Request.{Request}
 use Rattle.ft_base.specs.declared.requests.Outcome.{Outcome}
@@ -24,6 +25,16 @@ unfoldable pub reply_at : Machine → List ℕ → List Entry → ℕ → Outcom
 reply_at machine state [] i = Value []
 reply_at machine state (entry ∷ entries) zero = (machine.step state entry.request).1
 reply_at machine state (entry ∷ entries) (suc i) = reply_at machine (machine.step state entry.request).0 entries i
+
+-- the replies of all requests, in order
+unfoldable pub replies : Machine → List ℕ → List Entry → List Outcome
+replies machine state [] = []
+replies machine state (entry ∷ entries) =
+    (machine.step state entry.request).1 ∷ replies machine (machine.step state entry.request).0 entries
+
+-- every request of the journal may be run
+abbrev pub AllFit : Machine → List Entry → Type 0
+AllFit machine journal = AllByRecursion (λ entry. Fits machine entry.request) journal
 
 -- an entry with a key of this client and retention id whose expiration is still to come
 abbrev pub is_held_by : ℕ → Key → Option Key → Bool

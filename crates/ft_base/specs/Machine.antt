@@ -1,5 +1,5 @@
 -- What a servant is: a function of its state and a request, over the state's bytes.
-use Rattle.std.specs.Prelude.{◌≡◌, ℕ, ◌≤◌, Bool, true, List, ◌++◌, length, Option, Some, None}
+use Rattle.std.specs.Prelude.{ℕ, ◌≤◌, Bool, List, ◌++◌, length, Option, Some, None}
 use Rattle.ft_base.specs.Canonical.{IsCanonical, one_of}
 use Rattle.ft_base.specs.declared.requests.Request.{Request}
 use Rattle.ft_base.specs.declared.requests.Outcome.{Outcome}

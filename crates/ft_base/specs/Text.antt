@@ -1,5 +1,5 @@
 -- Names: texts of 1 to 255 bytes, none of them 0.
-use Rattle.std.specs.Prelude.{◌≡◌, ℕ, ◌<◌, ◌≤◌, ◌==◌, Bool, nat_lt, if◌then◌else◌, List, length, position, Option, Some, None, option_map}
+use Rattle.std.specs.Prelude.{◌≡◌, ℕ, ◌<◌, ◌≤◌, ◌==◌, nat_lt, if◌then◌else◌, List, length, position, Option, Some, None, option_map}
 use Rattle.ft_base.specs.declared.text.NameFault.{NameFault}
 use Rattle.ft_base.specs.declared.text.NameFault.TheVariants as faults
 

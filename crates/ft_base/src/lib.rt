@@ -20,3 +20,6 @@ pub use requests::{Key, Outcome, Par, Request, Signature};
 pub use servants::Servant;
 pub use text::{Bytes, NAME_LIMIT, Name, NameFault};
 pub use views::{MEMBER_LIMIT, Members, View};
+
+#[cfg(test)]
+mod tests;

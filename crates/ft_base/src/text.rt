@@ -91,7 +91,7 @@ impl Name {
     pub fn is(&self, other: &Name) -> bool
         ensures { result ≡ bytes_eq self.now other.now }
     {
-        self.bytes() == other.bytes()
+        self.text.as_slice() == other.text.as_slice()
     }
 
     /// An equal name.

@@ -1,0 +1,12 @@
+pub mod Steps
+pub mod Codecs
+pub mod Sequences
+pub mod ValueLaws
+pub mod EncapsulationLaws
+pub mod ArgumentLaws
+pub mod Strings
+pub mod Writing
+pub mod CopyLaws
+pub mod BodyLaws
+pub mod CodecLaws
+pub mod Places

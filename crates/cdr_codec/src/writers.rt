@@ -1,0 +1,231 @@
+ghost use Rattle.std.specs.Prelude.{◌≡◌, ◌≤◌, ◌<◌, ◌+◌, ◌^◌, ℕ, List, [], ◌∷◌, ◌++◌, length, replicate, slice_get, None, OnOk, OnErr};
+ghost use Rattle.std.specs.Int.{w16, w32, w64};
+ghost use Rattle.ft_base.specs.Canonical.{padding};
+ghost use Rattle.ft_base.specs.Text.{zero_place};
+ghost use Rattle.cdr_codec.specs.Formats.{number, octets};
+ghost use Rattle.cdr_codec.specs.Values.{boolean, text, signed};
+ghost use Rattle.cdr_codec.specs.Calls.{appended};
+ghost use Rattle.cdr_codec.specs.Encapsulations.{IsEncapsulated};
+
+use crate::digits::{digits_of_1, digits_of_2, digits_of_4, digits_of_8};
+use crate::orders::Order;
+use ft_base::{Bytes, NoMemory};
+use std::alloc::Global;
+use std::marker::Model;
+
+/// Writes values as bytes, one behind the other, with padding of zeros. A call that finds no memory
+/// leaves the writer as it was.
+#[derive(Drop)]
+pub struct CdrWriter {
+    order: Order,
+    place: u32,
+    text: Vec<u8>,
+}
+
+impl Model for CdrWriter {
+    ghost use Rattle.cdr_codec.specs.Calls.{Writer};
+
+    ghost Value = { Writer };
+
+    ghost view = { λ w. record { order = w.order; place = w.place; text = w.text.items } };
+}
+
+static ZEROS: [u8; 8] = [0; 8];
+
+fn zeros(count: usize) -> &'static [u8]
+    requires { count ≤ 8 }
+    ensures { result.now ≡ replicate count 0 }
+{
+    &ZEROS[..count]
+}
+
+/// A field of the text: zeros, then the digits of a number, then octets and what ends them.
+fn put(
+    text: &mut Vec<u8>,
+    skip: usize,
+    digits: &[u8],
+    octets: &[u8],
+    ending: &[u8],
+) -> Result<(), NoMemory>
+    requires skips { skip ≤ 8 }
+    requires numbers { length digits.now ≤ 8 }
+    requires counts { length octets.now < 2 ^ 32 }
+    requires ends { length ending.now ≤ 1 }
+    ensures written { OnOk result (text.new.items ≡ text.old.items ++ replicate skip 0 ++ digits.now ++ octets.now ++ ending.now) }
+    ensures left { OnErr result (text.new.items ≡ text.old.items) }
+{
+    text.reserve(skip + digits.len() + octets.len() + ending.len())?;
+    text.extend_from_slice(zeros(skip)).unwrap();
+    text.extend_from_slice(digits).unwrap();
+    text.extend_from_slice(octets).unwrap();
+    text.extend_from_slice(ending).unwrap();
+    Ok(())
+}
+
+impl CdrWriter {
+    /// An empty text, whose first byte has this place in its message or encapsulation.
+    pub fn new(alloc: Global, order: Order, place: u32) -> CdrWriter
+        ensures { result ≡ record { order = order; place = place; text = [] } }
+    {
+        CdrWriter {
+            order,
+            place,
+            text: Vec::new(alloc),
+        }
+    }
+
+    /// The byte order.
+    pub fn order(&self) -> Order
+        ensures { result ≡ self.now.order }
+    {
+        self.order
+    }
+
+    /// The bytes so far.
+    pub fn bytes(&self) -> &[u8]
+        ensures { result.now ≡ self.now.text }
+    {
+        self.text.as_slice()
+    }
+
+    /// The text. It takes no memory.
+    pub fn finish(self) -> Bytes
+        ensures { result ≡ self.text }
+    {
+        let CdrWriter {
+            order: _,
+            place: _,
+            text,
+        } = self;
+        Bytes::from_vec(text)
+    }
+
+    fn put(
+        &mut self,
+        size: usize,
+        digits: &[u8],
+        octets: &[u8],
+        ending: &[u8],
+    ) -> Result<(), NoMemory>
+        requires some { 0 < size }
+        requires small { size ≤ 8 }
+        requires numbers { length digits.now ≤ 8 }
+        requires counts { length octets.now < 2 ^ 32 }
+        requires ends { length ending.now ≤ 1 }
+        ensures written { OnOk result (self.new ≡ record self.old { text = self.old.text ++ replicate (padding (self.old.place + length self.old.text) size) 0 ++ digits.now ++ octets.now ++ ending.now }) }
+        ensures left { OnErr result (self.new ≡ self.old) }
+    {
+        let place = self.place as usize + self.text.len();
+        let skip = (size - place % size) % size;
+        put(&mut self.text, skip, digits, octets, ending)
+    }
+
+    fn put_number(&mut self, size: usize, digits: &[u8]) -> Result<(), NoMemory>
+        requires some { 0 < size }
+        requires small { size ≤ 8 }
+        requires sized { length digits.now ≡ size }
+        ensures written { OnOk result (self.new ≡ appended (λ order place n. replicate (padding place size) 0 ++ digits.now) digits.now self.old) }
+        ensures left { OnErr result (self.new ≡ self.old) }
+    {
+        self.put(size, digits, &[], &[])
+    }
+
+    /// An octet.
+    pub fn write_octet(&mut self, n: u8) -> Result<(), NoMemory>
+        ensures written { OnOk result (self.new ≡ appended (number 1).written n self.old) }
+        ensures left { OnErr result (self.new ≡ self.old) }
+    {
+        let digits = digits_of_1(self.order(), n);
+        self.put_number(1, &digits)
+    }
+
+    /// An unsigned short.
+    pub fn write_u16(&mut self, n: u16) -> Result<(), NoMemory>
+        ensures written { OnOk result (self.new ≡ appended (number 2).written n self.old) }
+        ensures left { OnErr result (self.new ≡ self.old) }
+    {
+        let digits = digits_of_2(self.order(), n);
+        self.put_number(2, &digits)
+    }
+
+    /// An unsigned long.
+    pub fn write_u32(&mut self, n: u32) -> Result<(), NoMemory>
+        ensures written { OnOk result (self.new ≡ appended (number 4).written n self.old) }
+        ensures left { OnErr result (self.new ≡ self.old) }
+    {
+        let digits = digits_of_4(self.order(), n);
+        self.put_number(4, &digits)
+    }
+
+    /// An unsigned long long.
+    pub fn write_u64(&mut self, n: u64) -> Result<(), NoMemory>
+        ensures written { OnOk result (self.new ≡ appended (number 8).written n self.old) }
+        ensures left { OnErr result (self.new ≡ self.old) }
+    {
+        let digits = digits_of_8(self.order(), n);
+        self.put_number(8, &digits)
+    }
+
+    /// A short.
+    pub fn write_i16(&mut self, n: i16) -> Result<(), NoMemory>
+        ensures written { OnOk result (self.new ≡ appended (signed w16).written n self.old) }
+        ensures left { OnErr result (self.new ≡ self.old) }
+    {
+        self.write_u16(n.cast_unsigned())
+    }
+
+    /// A long.
+    pub fn write_i32(&mut self, n: i32) -> Result<(), NoMemory>
+        ensures written { OnOk result (self.new ≡ appended (signed w32).written n self.old) }
+        ensures left { OnErr result (self.new ≡ self.old) }
+    {
+        self.write_u32(n.cast_unsigned())
+    }
+
+    /// A long long.
+    pub fn write_i64(&mut self, n: i64) -> Result<(), NoMemory>
+        ensures written { OnOk result (self.new ≡ appended (signed w64).written n self.old) }
+        ensures left { OnErr result (self.new ≡ self.old) }
+    {
+        self.write_u64(n.cast_unsigned())
+    }
+
+    /// A boolean: one octet, 0 or 1.
+    pub fn write_bool(&mut self, value: bool) -> Result<(), NoMemory>
+        ensures written { OnOk result (self.new ≡ appended boolean.written value self.old) }
+        ensures left { OnErr result (self.new ≡ self.old) }
+    {
+        self.write_octet(if value { 1 } else { 0 })
+    }
+
+    /// A sequence of octets.
+    pub fn write_octets(&mut self, content: &[u8]) -> Result<(), NoMemory>
+        requires { length content.now < 2 ^ 32 }
+        ensures written { OnOk result (self.new ≡ appended octets.written content.now self.old) }
+        ensures left { OnErr result (self.new ≡ self.old) }
+    {
+        let digits = digits_of_4(self.order(), content.len() as u32);
+        self.put(4, &digits, content, &[])
+    }
+
+    /// A string, which is given without its NUL.
+    pub fn write_string(&mut self, string: &[u8]) -> Result<(), NoMemory>
+        requires no_zero { zero_place string.now ≡ None }
+        requires short { length string.now + 1 < 2 ^ 32 }
+        ensures written { OnOk result (self.new ≡ appended text.written string.now self.old) }
+        ensures left { OnErr result (self.new ≡ self.old) }
+    {
+        let digits = digits_of_4(self.order(), string.len() as u32 + 1);
+        self.put(4, &digits, string, &[0])
+    }
+
+    /// An encapsulation: what another writer wrote, which began at place 0 with the octet of its own
+    /// byte order.
+    pub fn encapsulate(&mut self, inner: &CdrWriter) -> Result<(), NoMemory>
+        requires { IsEncapsulated inner.now }
+        ensures written { OnOk result (self.new ≡ appended octets.written inner.now.text self.old) }
+        ensures left { OnErr result (self.new ≡ self.old) }
+    {
+        self.write_octets(inner.bytes())
+    }
+}

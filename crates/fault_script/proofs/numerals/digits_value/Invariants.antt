@@ -1,0 +1,10 @@
+use Rattle.std.proofs.Common.{◌≡◌, ◌^◌, ◌<◌, take}
+use Rattle.std.specs.Str.Parse.{digits_value}
+use Rattle.fault_script.proofs.numerals.digits_value.Given as goal
+
+-- the digits so far
+abbrev pub invariant-loop-byte : goal.invariant-loop-byte
+invariant-loop-byte l = record {
+  value : l.value ≡ digits_value 10 (take l.byte-index l.word);
+  small : l.value < 10 ^ l.byte-index;
+}

@@ -1,0 +1,7 @@
+pub mod Words
+pub mod Numbers
+pub mod Faults
+pub mod Forms
+pub mod Grammar
+pub mod Options
+pub mod Arguments

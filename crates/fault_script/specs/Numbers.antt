@@ -1,0 +1,54 @@
+-- Numbers in words: decimal, of 1 to 20 digits, with any zeros in front.
+use Rattle.std.specs.Prelude.{ℕ, ◌-◌, ◌^◌, ◌==◌, ◌&&◌, Bool, nat_le, nat_lt, min, if◌then◌else◌, List, length, Option, Some, None, option_map, option_and_then, ℤ, pos, negsuc, neg_ℤ, slice_index, drop}
+use Rattle.std.specs.List.{list_all}
+use Rattle.std.specs.Char.{is_ascii_digit}
+use Rattle.std.specs.Str.Parse.{digits_value}
+
+abbrev pub is_number : List ℕ → Bool
+is_number word = nat_le 1 (length word) && nat_le (length word) 20 && list_all is_ascii_digit word
+
+-- the number that a word is, if it is one
+abbrev pub number : List ℕ → Option ℕ
+number word = if is_number word then Some (digits_value 10 word) else None
+
+-- the greatest number of 64 bits stands for every number above it
+abbrev pub capped : ℕ → ℕ
+capped value = min value (2 ^ 64 - 1)
+
+-- a number from 1
+abbrev pub from_one : ℕ → Option ℕ
+from_one value = if value == 0 then None else Some (capped value)
+
+abbrev pub positive_number : List ℕ → Option ℕ
+positive_number word = option_and_then from_one (number word)
+
+-- a decimal: a number, or a minus and a number
+abbrev pub decimal : List ℕ → Option ℤ
+decimal word =
+    if slice_index word 0 == 45 then option_map (λ n. neg_ℤ (pos n)) (number (drop 1 word))
+    else option_map pos (number word)
+
+-- from -range to range - 1
+abbrev pub is_within : ℕ → ℤ → Bool
+is_within range (pos n) = nat_lt n range
+is_within range (negsuc n) = nat_lt n range
+
+abbrev pub within : ℕ → ℤ → Option ℤ
+within range value = if is_within range value then Some value else None
+
+-- signed numbers of 64 and of 32 bits
+abbrev pub signed_64 : List ℕ → Option ℤ
+signed_64 word = option_and_then (within (2 ^ 63)) (decimal word)
+
+abbrev pub signed_32 : List ℕ → Option ℤ
+signed_32 word = option_and_then (within (2 ^ 31)) (decimal word)
+
+-- numbers of 64 and of 32 bits
+abbrev pub below : ℕ → ℕ → Option ℕ
+below limit value = if nat_lt value limit then Some value else None
+
+abbrev pub unsigned_64 : List ℕ → Option ℕ
+unsigned_64 word = option_and_then (below (2 ^ 64)) (number word)
+
+abbrev pub unsigned_32 : List ℕ → Option ℕ
+unsigned_32 word = option_and_then (below (2 ^ 32)) (number word)

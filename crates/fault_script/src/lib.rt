@@ -1,0 +1,20 @@
+//! The lines of a script: their grammar, and its reader.
+#![tactic(auto)]
+
+mod arguments;
+mod forms;
+mod lines;
+mod names;
+mod numerals;
+mod options;
+mod reading;
+mod splitting;
+mod values;
+mod verbs;
+
+pub use arguments::{Said, call_words};
+pub use lines::{LimitName, Line, LineFault, Words};
+pub use reading::read_line;
+
+#[cfg(test)]
+mod tests;

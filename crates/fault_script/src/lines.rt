@@ -1,0 +1,162 @@
+ghost use Rattle.std.specs.Prelude.{◌≡◌, ℕ, ◌++◌, List, codes, IfOk};
+
+use ft_base::{Bytes, Name, NoMemory};
+use std::alloc::Global;
+use std::marker::Model;
+
+/// Words in order, each of any bytes.
+#[derive(Drop)]
+pub struct Words {
+    words: Vec<Bytes>,
+}
+
+impl Model for Words {
+    ghost Value = { List (List ℕ) };
+
+    ghost view = { λ w. w.words.items };
+}
+
+/// A line of a script. A host or a message has its number; one that 64 bits can't keep is the greatest
+/// that they can, which no host and no message has.
+#[derive(Drop)]
+pub enum Line {
+    /// `hosts N`: the hosts 0 to N-1 are up.
+    Hosts(u64),
+    /// `group G account cold H`: an account group of one member, cold.
+    Group {
+        name: Name,
+        member: u64,
+    },
+    /// `client C`.
+    Client(Name),
+    /// `call C G OP WORD..`: an invocation. What the words mean depends on the group's kind.
+    Call {
+        client: Name,
+        group: Name,
+        op: Name,
+        words: Words,
+    },
+    /// `deliver K`: message K arrives.
+    Deliver(u64),
+    /// `tick N`: time goes on.
+    Tick(u32),
+    /// `show G`: prints the group.
+    Show(Name),
+}
+
+/// What there are only so many of.
+#[derive(Clone, Copy, Debug, PartialEq, Eq)]
+pub enum LimitName {
+    /// Bytes of a script.
+    Script,
+    /// Bytes of a line.
+    Line,
+    Hosts,
+    Groups,
+    /// Members of a group.
+    Members,
+    Clients,
+    /// Entries of all journals.
+    Entries,
+    /// Messages that were sent.
+    Messages,
+    /// Bytes in messages.
+    Bytes,
+    /// Faults that were reported.
+    Faults,
+}
+
+/// Why a line is refused.
+#[derive(Clone, Copy, Debug, PartialEq, Eq)]
+pub enum LineFault {
+    /// It is of no form, or a number or an argument is out of its range.
+    Syntax,
+    /// It names something that isn't there.
+    Unknown,
+    /// It makes something that was made before.
+    Again,
+    /// There would be too much of this.
+    Limit(LimitName),
+    /// It is a line of the language that isn't built yet.
+    Later,
+    /// Want of memory.
+    NoMemory,
+}
+
+impl From<NoMemory> for LineFault {
+    ghost use Rattle.fault_script.specs.declared.lines.LineFault.TheVariants.{NoMemory};
+
+    ghost from_gives = { λ _ e. e ≡ NoMemory };
+
+    fn from(_error: NoMemory) -> LineFault {
+        LineFault::NoMemory
+    }
+}
+
+impl Words {
+    ghost use Rattle.fault_script.specs.Words.{texts};
+
+    /// Copies of these words.
+    pub(crate) fn of(alloc: Global, words: &[&[u8]]) -> Result<Words, NoMemory>
+        ensures { IfOk result (λ copies. copies ≡ texts words.now) }
+    {
+        let mut copies = Vec::new(alloc);
+        for word in words {
+            copies.push(Bytes::of(alloc, *word)?)?;
+        }
+        Ok(Words { words: copies })
+    }
+
+    /// These words.
+    pub fn from_vec(words: Vec<Bytes>) -> Words
+        ensures { result ≡ words.items }
+    {
+        Words { words }
+    }
+
+    /// The words themselves.
+    pub fn as_slice(&self) -> &[Bytes]
+        ensures { result.now ≡ self.now }
+    {
+        self.words.as_slice()
+    }
+}
+
+impl LimitName {
+    ghost use Rattle.fault_script.specs.Faults.{limit_text};
+
+    fn text(self) -> &'static [u8]
+        ensures { result.now ≡ codes "limit " ++ limit_text self }
+    {
+        match self {
+            LimitName::Script => b"limit script",
+            LimitName::Line => b"limit line",
+            LimitName::Hosts => b"limit hosts",
+            LimitName::Groups => b"limit groups",
+            LimitName::Members => b"limit members",
+            LimitName::Clients => b"limit clients",
+            LimitName::Entries => b"limit entries",
+            LimitName::Messages => b"limit messages",
+            LimitName::Bytes => b"limit bytes",
+            LimitName::Faults => b"limit faults",
+        }
+    }
+}
+
+impl LineFault {
+    ghost use Rattle.fault_script.specs.Faults.{fault_text};
+
+    /// The fault as it is printed behind the number of its line.
+    pub fn text(self) -> &'static [u8]
+        ensures { result.now ≡ fault_text self }
+    {
+        match self {
+            LineFault::Syntax => b"syntax",
+            LineFault::Unknown => b"unknown",
+            LineFault::Again => b"again",
+            LineFault::Limit(name) => name.text(),
+            LineFault::Later => b"later",
+            LineFault::NoMemory => b"no memory",
+        }
+    }
+}

@@ -1,0 +1,78 @@
+ghost use Rattle.std.specs.Prelude.{◌≡◌, ℕ, ◌<◌, ◌≤◌, List, length, Some, Ok, Err, IfOk, IfSome};
+ghost use Rattle.fault_script.specs.Words.{words, texts};
+ghost use Rattle.fault_script.specs.Faults.{Answers};
+ghost use Rattle.fault_script.specs.Forms.{line_of, parse_words, parse};
+ghost use Rattle.fault_script.specs.Grammar.{Spells};
+ghost use Rattle.fault_script.specs.declared.lines.Line.{Line};
+
+use crate::forms::{
+    read_call, read_client, read_deliver, read_group, read_hosts, read_show, read_tick,
+};
+use crate::lines::{LimitName, Line, LineFault};
+use crate::splitting::{is_comment, split_first, split_words};
+use crate::verbs::{Verb, find_verb, is_unbuilt};
+use std::alloc::Global;
+
+/// The longest line, in bytes without its end.
+const LINE_LIMIT: usize = 4096;
+
+fn read_form(alloc: Global, first: &[u8], rest: &[&[u8]]) -> Result<Line, LineFault>
+    ensures { Answers result (line_of first.now (texts rest.now)) }
+{
+    if is_unbuilt(first) {
+        return Err(LineFault::Later);
+    }
+    match find_verb(first) {
+        None => Err(LineFault::Syntax),
+        Some(Verb::Hosts) => read_hosts(rest),
+        Some(Verb::Group) => read_group(alloc, rest),
+        Some(Verb::Client) => read_client(alloc, rest),
+        Some(Verb::Call) => read_call(alloc, rest),
+        Some(Verb::Deliver) => read_deliver(rest),
+        Some(Verb::Tick) => read_tick(rest),
+        Some(Verb::Show) => read_show(alloc, rest),
+    }
+}
+
+fn read_words(alloc: Global, words: &[&[u8]]) -> Result<Option<Line>, LineFault>
+    ensures { Answers result (parse_words (texts words.now)) }
+{
+    let Some((first, rest)) = split_first(words) else {
+        return Ok(None);
+    };
+    if is_comment(first) {
+        return Ok(None);
+    }
+    match read_form(alloc, first, rest) {
+        Ok(line) => Ok(Some(line)),
+        Err(fault) => Err(fault),
+    }
+}
+
+fn read_text(alloc: Global, text: &[u8]) -> Result<Option<Line>, LineFault>
+    ensures answer { Answers result (parse text.now) }
+    ensures long { 4096 < length text.now → result ≡ Err (LineFault.Limit LimitName.Line) }
+{
+    if text.len() > LINE_LIMIT {
+        return Err(LineFault::Limit(LimitName::Line));
+    }
+    match split_words(alloc, text) {
+        Ok(words) => read_words(alloc, words.as_slice()),
+        Err(_) => Err(LineFault::NoMemory),
+    }
+}
+
+/// Reads a line of a script, without its end. `None`: nothing stands in it, or a comment does. A line is
+/// refused as `limit line`, `later` or `syntax`, for the first of these that applies.
+pub fn read_line(alloc: Global, text: &[u8]) -> Result<Option<Line>, LineFault>
+    // The table of lines and refusals, exactly.
+    ensures answer { Answers result (parse text.now) }
+    // What is read is of its form.
+    ensures form { IfOk result (λ read. IfSome read (Spells (words text.now))) }
+    // What is of a form is read.
+    ensures read { (line : Line) → length text.now ≤ 4096 → Spells (words text.now) line
+        → Answers result (Ok (Some line)) }
+    ensures long { 4096 < length text.now → result ≡ Err (LineFault.Limit LimitName.Line) }
+{
+    read_text(alloc, text)
+}

@@ -1,0 +1,347 @@
+use crate::{Line, LineFault, Words, call_words, read_line};
+use ft_base::{Par, Signature};
+use std::alloc::Global;
+use std::test::Fail;
+
+/// What a line reads as, as a text that a table can hold.
+fn shown(alloc: Global, text: &[u8]) -> Result<&'static str, LineFault> {
+    match read_line(alloc, text) {
+        Ok(None) => Ok("nothing"),
+        Ok(Some(Line::Hosts(_))) => Ok("hosts"),
+        Ok(Some(Line::Group { name: _, member: _ })) => Ok("group"),
+        Ok(Some(Line::Client(_))) => Ok("client"),
+        Ok(
+            Some(
+                Line::Call {
+                    client: _,
+                    group: _,
+                    op: _,
+                    words: _,
+                },
+            ),
+        ) => Ok("call"),
+        Ok(Some(Line::Deliver(_))) => Ok("deliver"),
+        Ok(Some(Line::Tick(_))) => Ok("tick"),
+        Ok(Some(Line::Show(_))) => Ok("show"),
+        Err(fault) => Err(fault),
+    }
+}
+
+fn shown_text(alloc: Global, text: &str) -> Result<&'static str, LineFault> {
+    shown(alloc, text.as_bytes())
+}
+
+const LINES: [(&str, Result<&str, LineFault>); 66] = [
+    ("", Ok("nothing")),
+    (" \t\r", Ok("nothing")),
+    ("# frob", Ok("nothing")),
+    ("\r #frob", Ok("nothing")),
+    ("hosts 7", Ok("hosts")),
+    ("hosts\t0007\r", Ok("hosts")),
+    ("hosts 99999999999999999999", Ok("hosts")),
+    ("hosts 099999999999999999999", Err(LineFault::Syntax)),
+    ("hosts 0", Err(LineFault::Syntax)),
+    ("hosts", Err(LineFault::Syntax)),
+    ("hosts 1 2", Err(LineFault::Syntax)),
+    ("hosts -1", Err(LineFault::Syntax)),
+    ("hosts +1", Err(LineFault::Syntax)),
+    ("Hosts 1", Err(LineFault::Syntax)),
+    ("group g1 account cold 0", Ok("group")),
+    ("group g account cold 99999999999999999999", Ok("group")),
+    ("group gX account cold x", Err(LineFault::Syntax)),
+    ("group g account cold", Err(LineFault::Later)),
+    ("group g account cold 0 00", Err(LineFault::Later)),
+    ("group g store cold 0", Err(LineFault::Later)),
+    ("group g queue active", Err(LineFault::Later)),
+    ("group g account warm 0", Err(LineFault::Later)),
+    ("group g store warm x", Err(LineFault::Syntax)),
+    ("group 1g store cold 0", Err(LineFault::Syntax)),
+    ("group g frob cold 0", Err(LineFault::Syntax)),
+    ("group g account hot 0", Err(LineFault::Syntax)),
+    ("group g account", Err(LineFault::Syntax)),
+    ("client c-6.x_Z", Ok("client")),
+    ("client c-8.x_Z \t ", Ok("client")),
+    ("client _c", Err(LineFault::Syntax)),
+    ("client c/d", Err(LineFault::Syntax)),
+    ("client", Err(LineFault::Syntax)),
+    ("client a b", Err(LineFault::Syntax)),
+    ("call c0 bank deposit 700", Ok("call")),
+    ("call c0 bank deposit", Ok("call")),
+    ("call c0 bank nover=1 x y z", Ok("call")),
+    ("call c0 bank", Err(LineFault::Syntax)),
+    ("call 0c bank deposit 700", Err(LineFault::Syntax)),
+    ("call c0 - deposit 700", Err(LineFault::Syntax)),
+    ("deliver 1", Ok("deliver")),
+    ("deliver 0002", Ok("deliver")),
+    ("deliver 0", Err(LineFault::Syntax)),
+    ("deliver 00000000000000000001", Ok("deliver")),
+    ("deliver 000000000000000000001", Err(LineFault::Syntax)),
+    ("deliver 1 crash append", Err(LineFault::Later)),
+    ("deliver 1 crash execute", Err(LineFault::Later)),
+    ("deliver 0 crash append", Err(LineFault::Syntax)),
+    ("deliver 1 crash", Err(LineFault::Syntax)),
+    ("deliver 1 crash frob", Err(LineFault::Syntax)),
+    ("deliver 1 crash append 2", Err(LineFault::Syntax)),
+    ("tick 0", Ok("tick")),
+    ("tick 999", Ok("tick")),
+    ("tick 4294967295", Ok("tick")),
+    ("tick 4294967296", Err(LineFault::Syntax)),
+    ("tick", Err(LineFault::Syntax)),
+    ("show bank", Ok("show")),
+    ("show", Err(LineFault::Syntax)),
+    ("frob", Err(LineFault::Syntax)),
+    ("manage 0 x", Err(LineFault::Syntax)),
+    ("beat c g", Err(LineFault::Syntax)),
+    ("plain 0 00", Err(LineFault::Syntax)),
+    ("crash", Err(LineFault::Later)),
+    ("crash 1", Err(LineFault::Later)),
+    ("bind c1", Err(LineFault::Later)),
+    ("logfail g", Err(LineFault::Later)),
+    ("set frob", Err(LineFault::Later)),
+];
+
+#[test]
+fn lines(rt: HostRuntime) -> Result<(), Fail> {
+    for (text, wanted) in LINES.iter() {
+        assert_eq!(rt; shown_text(rt.alloc(), *text), *wanted, "{text}");
+    }
+    Ok(())
+}
+
+fn line_of(alloc: Global, start: &str, byte: u8, length: usize) -> Result<Vec<u8>, Fail> {
+    let mut line = Vec::new(alloc);
+    line.extend_from_slice(start.as_bytes())?;
+    for _ in 0..length {
+        line.push(byte)?;
+    }
+    Ok(line)
+}
+
+const LONG_LINES: [(&str, u8, usize, Result<&str, LineFault>); 8] = [
+    ("show g", b' ', 4090, Ok("show")),
+    (
+        "show g",
+        b' ',
+        4091,
+        Err(LineFault::Limit(crate::LimitName::Line)),
+    ),
+    ("#", b'\r', 4095, Ok("nothing")),
+    (
+        "#",
+        b'\r',
+        4096,
+        Err(LineFault::Limit(crate::LimitName::Line)),
+    ),
+    ("show g", b'2', 63, Ok("show")),
+    ("show g", b'2', 64, Err(LineFault::Syntax)),
+    ("call c g ", b'=', 255, Ok("call")),
+    ("call c g ", b'=', 256, Err(LineFault::Syntax)),
+];
+
+#[test]
+fn lengths(rt: HostRuntime) -> Result<(), Fail> {
+    for (start, byte, length, wanted) in LONG_LINES.iter() {
+        let line = line_of(rt.alloc(), *start, *byte, *length)?;
+        assert_eq!(rt;
+            shown(rt.alloc(), line.as_slice()),
+            *wanted,
+            "{start} {length}"
+        );
+    }
+    Ok(())
+}
+
+fn host_count(alloc: Global, text: &str) -> u64 {
+    match read_line(alloc, text.as_bytes()) {
+        Ok(Some(Line::Hosts(count))) => count,
+        _ => 0,
+    }
+}
+
+fn member(alloc: Global, text: &str) -> u64 {
+    match read_line(alloc, text.as_bytes()) {
+        Ok(Some(Line::Group { name: _, member })) => member,
+        _ => 0,
+    }
+}
+
+#[test]
+fn values(rt: HostRuntime) -> Result<(), Fail> {
+    assert_eq!(rt; host_count(rt.alloc(), "hosts 0064"), 64);
+    assert_eq!(rt;
+        host_count(rt.alloc(), "hosts 18446744073709551615"),
+        u64::MAX
+    );
+    assert_eq!(rt;
+        host_count(rt.alloc(), "hosts 18446744073709551616"),
+        u64::MAX
+    );
+    assert_eq!(rt; member(rt.alloc(), "group bank account cold 03"), 3);
+    Ok(())
+}
+
+/// What the words after `call c g op` say: the parameters, `ret`, `exp` and whether it is versioned.
+type Row = (
+    &'static str,
+    Option<Par>,
+    Option<Par>,
+    Option<(&'static [u8], Option<i32>, Option<u64>, bool)>,
+);
+
+const NUMBER: Option<Par> = Some(Par::I64);
+
+const CALLS: [Row; 36] = [
+    (
+        "call c g op 700",
+        NUMBER,
+        None,
+        Some((b"\0\0\0\0\0\0\x02\xbc", None, None, true)),
+    ),
+    (
+        "call c g op -007",
+        NUMBER,
+        None,
+        Some((b"\xff\xff\xff\xff\xff\xff\xff\xf9", None, None, true)),
+    ),
+    (
+        "call c g op -0",
+        NUMBER,
+        None,
+        Some((b"\0\0\0\0\0\0\0\0", None, None, true)),
+    ),
+    (
+        "call c g op 9223372036854775807",
+        NUMBER,
+        None,
+        Some((b"\x7f\xff\xff\xff\xff\xff\xff\xff", None, None, true)),
+    ),
+    (
+        "call c g op -9223372036854775808",
+        NUMBER,
+        None,
+        Some((b"\x80\0\0\0\0\0\0\0", None, None, true)),
+    ),
+    ("call c g op 9223372036854775808", NUMBER, None, None),
+    ("call c g op -9223372036854775809", NUMBER, None, None),
+    ("call c g op +5", NUMBER, None, None),
+    ("call c g op -", NUMBER, None, None),
+    ("call c g op", NUMBER, None, None),
+    ("call c g op 1 2", NUMBER, None, None),
+    ("call c g op ret=1 5", NUMBER, None, None),
+    (
+        "call c g op 5 nover ret=-2147483648 exp=18446744073709551615",
+        NUMBER,
+        None,
+        Some((
+            b"\0\0\0\0\0\0\0\x05",
+            Some(-2147483648),
+            Some(u64::MAX),
+            false,
+        )),
+    ),
+    (
+        "call c g op exp=0 ret=2147483647",
+        None,
+        None,
+        Some((b"", Some(2147483647), Some(0), true)),
+    ),
+    ("call c g op", None, None, Some((b"", None, None, true))),
+    ("call c g op 5", None, None, None),
+    ("call c g op ret=1 ret=1", None, None, None),
+    ("call c g op exp=1 exp=2", None, None, None),
+    ("call c g op nover nover", None, None, None),
+    ("call c g op ret=2147483648", None, None, None),
+    ("call c g op ret=-2147483649", None, None, None),
+    ("call c g op ret=", None, None, None),
+    ("call c g op exp=-1", None, None, None),
+    ("call c g op exp=18446744073709551616", None, None, None),
+    ("call c g op Nover", None, None, None),
+    (
+        "call c g op k1 0A",
+        Some(Par::Text),
+        Some(Par::Octets),
+        Some((b"\0\0\0\x03k1\0\0\0\0\0\x01\x0a", None, None, true)),
+    ),
+    (
+        "call c g op ret=1 01",
+        Some(Par::Text),
+        Some(Par::Octets),
+        Some((b"\0\0\0\x06ret=1\0\0\0\0\0\0\x01\x01", None, None, true)),
+    ),
+    (
+        "call c g op k -",
+        Some(Par::Text),
+        Some(Par::Octets),
+        Some((b"\0\0\0\x02k\0\0\0\0\0\0\0", None, None, true)),
+    ),
+    ("call c g op k 0", Some(Par::Text), Some(Par::Octets), None),
+    ("call c g op k 0g", Some(Par::Text), Some(Par::Octets), None),
+    (
+        "call c g op k\0 00",
+        Some(Par::Text),
+        Some(Par::Octets),
+        None,
+    ),
+    ("call c g op k", Some(Par::Text), Some(Par::Octets), None),
+    (
+        "call c g op 4294967295 1",
+        Some(Par::U32),
+        NUMBER,
+        Some((
+            b"\xff\xff\xff\xff\0\0\0\0\0\0\0\0\0\0\0\x01",
+            None,
+            None,
+            true,
+        )),
+    ),
+    ("call c g op 4294967296", Some(Par::U32), None, None),
+    ("call c g op -1", Some(Par::U32), None, None),
+    ("call c g op true", Some(Par::Bool), None, None),
+];
+
+fn words_of(alloc: Global, text: &str) -> Words {
+    match read_line(alloc, text.as_bytes()) {
+        Ok(
+            Some(
+                Line::Call {
+                    client: _,
+                    group: _,
+                    op: _,
+                    words,
+                },
+            ),
+        ) => words,
+        _ => Words::from_vec(Vec::new(alloc)),
+    }
+}
+
+#[test]
+fn calls(rt: HostRuntime) -> Result<(), Fail> {
+    for (text, first, second, wanted) in CALLS.iter() {
+        let words = words_of(rt.alloc(), *text);
+        let signature = Signature {
+            first: *first,
+            second: *second,
+            gives: None,
+        };
+        match call_words(rt.alloc(), Some(signature), &words) {
+            Err(fault) => {
+                assert_eq!(rt; fault, LineFault::Syntax, "{text}");
+                assert!(rt; wanted.is_none(), "{text}");
+            }
+            Ok(said) => {
+                let (args, retention, expiration, versioned) = (*wanted).ok_or("refused")?;
+                assert_eq!(rt; said.args.bytes(), args, "{text}");
+                assert_eq!(rt; said.retention.map(|id| id.0), retention, "{text}");
+                assert_eq!(rt; said.expiration.map(|tick| tick.0), expiration, "{text}");
+                assert_eq!(rt; said.versioned, versioned, "{text}");
+            }
+        }
+    }
+    let none = Words::from_vec(Vec::new(rt.alloc()));
+    match call_words(rt.alloc(), None, &none) {
+        Ok(said) => assert!(rt; said.args.bytes().is_empty()),
+        Err(_) => assert!(rt; false),
+    }
+    Ok(())
+}

@@ -1,0 +1,82 @@
+ghost use Rattle.std.specs.Prelude.{◌≡◌, ℕ, List};
+ghost use Rattle.std.specs.List.{list_any};
+ghost use Rattle.std.specs.Str.{bytes_eq};
+ghost use Rattle.fault_script.specs.Forms.{verb, is_unbuilt};
+
+/// The first words of the lines that are built.
+#[derive(Clone, Copy, Debug, PartialEq, Eq)]
+pub(crate) enum Verb {
+    Hosts,
+    Group,
+    Client,
+    Call,
+    Deliver,
+    Tick,
+    Show,
+}
+
+/// The line that a first word begins, of those that are built.
+pub(crate) fn find_verb(first: &[u8]) -> Option<Verb>
+    ensures { result ≡ verb first.now }
+{
+    if first == b"hosts".as_slice() {
+        Some(Verb::Hosts)
+    } else if first == b"group".as_slice() {
+        Some(Verb::Group)
+    } else if first == b"client".as_slice() {
+        Some(Verb::Client)
+    } else if first == b"call".as_slice() {
+        Some(Verb::Call)
+    } else if first == b"deliver".as_slice() {
+        Some(Verb::Deliver)
+    } else if first == b"tick".as_slice() {
+        Some(Verb::Tick)
+    } else if first == b"show".as_slice() {
+        Some(Verb::Show)
+    } else {
+        None
+    }
+}
+
+static UNBUILT: [&[u8]; 27] = [
+    b"inject",
+    b"create",
+    b"set",
+    b"unset",
+    b"get",
+    b"add",
+    b"grow",
+    b"remove",
+    b"primary",
+    b"locations",
+    b"id",
+    b"ref",
+    b"member",
+    b"delete",
+    b"bind",
+    b"timeout",
+    b"crash",
+    b"restart",
+    b"report",
+    b"poll",
+    b"sweep",
+    b"subscribe",
+    b"unsubscribe",
+    b"pull",
+    b"checkpoint",
+    b"update",
+    b"logfail",
+];
+
+fn is_among(word: &[u8], texts: &[&[u8]]) -> bool
+    ensures { result ≡ list_any (λ text. bytes_eq word.now text.now) texts.now }
+{
+    texts.iter().any(|text| word == *text)
+}
+
+/// Whether a word is the first one of a line that is not built yet.
+pub(crate) fn is_unbuilt(first: &[u8]) -> bool
+    ensures { result ≡ is_unbuilt first.now }
+{
+    is_among(first, &UNBUILT)
+}

@@ -1,0 +1,23 @@
+//! The outside of `ftc`: where bytes come from and go to. A source and a sink may tell what they
+//! have left and what they hold, and each counts its faults, so that a contract can say what was
+//! read and written, and that a failure is answered only where there was one. Forms in memory tell
+//! all of it; the adapters to the system tell their faults alone.
+#![tactic(auto)]
+
+mod mem_sinks;
+mod mem_sources;
+mod schedules;
+mod sinks;
+mod sources;
+mod standard;
+mod wholes;
+
+pub use mem_sinks::MemSink;
+pub use mem_sources::MemSource;
+pub use sinks::{Put, Sink};
+pub use sources::{Got, Source};
+pub use standard::{StdSink, StdSource};
+pub use wholes::{Wrote, write_all};
+
+#[cfg(test)]
+mod tests;

@@ -1,0 +1,68 @@
+ghost use Rattle.std.specs.Prelude.{◌≡◌, ℕ, IfOk};
+ghost use Rattle.ft_outside.specs.Outside.{Rose};
+ghost use Rattle.ft_outside.specs.Schedules.{next, is_failing, called, failed};
+
+use ft_base::NoMemory;
+use std::alloc::Global;
+use std::marker::Model;
+
+/// Which calls of a form in memory are to fail, and how many did.
+#[derive(Drop)]
+pub struct Schedule {
+    calls: u64,
+    fails: Vec<u64>,
+    faults: u64,
+}
+
+impl Model for Schedule {
+    ghost use Rattle.ft_outside.specs.Schedules.{Schedule};
+
+    ghost Value = { Schedule };
+
+    ghost view = { λ s. record { calls = s.calls; fails = s.fails.items; faults = s.faults } };
+}
+
+/// One more, but at the end of a count.
+pub fn next(count: u64) -> u64
+    ensures value { result ≡ next count }
+    ensures rose { Rose count result }
+{
+    count.saturating_add(1)
+}
+
+impl Schedule {
+    /// The calls with these numbers, from 1, are to fail.
+    pub fn new(alloc: Global, fails: &[u64]) -> Result<Schedule, NoMemory>
+        ensures { IfOk result (λ s. s ≡ record { calls = 0; fails = fails.now; faults = 0 }) }
+    {
+        let fails = Vec::from_slice(alloc, fails)?;
+        Ok(Schedule {
+            calls: 0,
+            fails,
+            faults: 0,
+        })
+    }
+
+    /// Whether the next call is to fail.
+    pub fn is_failing(&self) -> bool
+        ensures { result ≡ is_failing self.now }
+    {
+        let number = next(self.calls);
+        self.fails.as_slice().contains(&number)
+    }
+
+    /// Counts a call.
+    pub fn pass(&mut self)
+        ensures { self.new ≡ called self.old }
+    {
+        self.calls = next(self.calls);
+    }
+
+    /// Counts a call that failed.
+    pub fn fail(&mut self)
+        ensures { self.new ≡ failed self.old }
+    {
+        self.calls = next(self.calls);
+        self.faults = next(self.faults);
+    }
+}

@@ -1,0 +1,24 @@
+/// What a write took: so many bytes at the front of the piece, at least one; or a fault.
+#[derive(Clone, Copy, Debug, PartialEq, Eq)]
+pub enum Put {
+    Took(usize),
+    Failed,
+}
+
+/// Where bytes go to.
+///
+/// `holds` is all that a sink has taken, where it tells that, and `count` its number of faults,
+/// which never falls and ends at 2^64 - 1.
+pub trait Sink {
+    ghost use Rattle.std.specs.Prelude.{ℕ, ◌<◌, List, length, Option};
+    ghost use Rattle.ft_outside.specs.Outside.{IsWritten};
+
+    ghost holds: { Self → Option (List ℕ) };
+
+    ghost count: { Self → ℕ };
+
+    /// Writes some bytes at the front of a piece. A sink that takes none of them has failed.
+    fn write(&mut self, piece: &[u8]) -> Put
+        requires { 0 < length piece.now }
+        ensures { IsWritten (holds self.old) (holds self.new) (count self.old) (count self.new) piece.now result };
+}

@@ -1,0 +1,80 @@
+-- The lines of output.
+use Rattle.std.specs.Prelude.{ℕ, Bool, true, false, List, [], ◌∷◌, codes, decimal, unwrap_or}
+use Rattle.std.specs.Fmt.{signed_decimal}
+use Rattle.ft_base.specs.declared.decisions.Decision.{Decision}
+use Rattle.ft_base.specs.declared.decisions.Decision.TheVariants.{Append, Repeat, Expired, Other, Full, BadOperation}
+use Rattle.sys_faults.specs.Kinds.{kind_name}
+use Rattle.sys_faults.specs.declared.faults.Completed.{Completed}
+use Rattle.sys_faults.specs.declared.faults.Completed.TheVariants.{Yes, No, Maybe}
+use Rattle.sys_faults.specs.declared.faults.SysKind.{SysKind}
+use Rattle.sys_faults.specs.declared.faults.SysKind.TheVariants.{Unknown}
+use Rattle.ft_report.specs.Words.{host_text, hosts_text, line, octets_text, spaced}
+use Rattle.ft_report.specs.declared.outcomes.Worth.{Worth}
+use Rattle.ft_report.specs.declared.outcomes.Worth.TheVariants as worths
+use Rattle.ft_report.specs.declared.outcomes.Shown.{Shown}
+use Rattle.ft_report.specs.declared.outcomes.Shown.TheVariants.{Value, User, System}
+use Rattle.ft_report.specs.declared.reports.Role.{Role}
+use Rattle.ft_report.specs.declared.reports.Role.TheVariants as roles
+use Rattle.ft_report.specs.declared.reports.ReportLine.{ReportLine}
+use Rattle.ft_report.specs.declared.reports.ReportLine.TheVariants as lines
+
+abbrev pub flag_text : Bool → List ℕ
+flag_text true = codes "true"
+flag_text false = codes "false"
+
+abbrev pub worth_text : Worth → List ℕ
+worth_text worths.Void = codes "void"
+worth_text (worths.Number number) = signed_decimal number
+worth_text (worths.Flag flag) = flag_text flag
+worth_text (worths.Octets octets) = octets_text octets
+
+abbrev pub completed_text : Completed → List ℕ
+completed_text Yes = codes "yes"
+completed_text No = codes "no"
+completed_text Maybe = codes "maybe"
+
+-- an exception's name; its repository id in hexadecimal where that is all that is known
+abbrev pub kind_text : SysKind → List ℕ
+kind_text (Unknown id) = octets_text id
+kind_text kind = unwrap_or (kind_name kind) []
+
+abbrev pub shown_text : Shown → List ℕ
+shown_text (Value worth) = spaced (codes "value" ∷ worth_text worth ∷ [])
+shown_text (User name) = spaced (codes "user" ∷ name ∷ [])
+shown_text (System fault) =
+    spaced (codes "system" ∷ kind_text fault.kind ∷ decimal fault.minor ∷ completed_text fault.completed ∷ [])
+
+abbrev pub decision_text : Decision → List ℕ
+decision_text (Append place) = spaced (codes "append" ∷ decimal place ∷ [])
+decision_text (Repeat place) = spaced (codes "repeat" ∷ decimal place ∷ [])
+decision_text (Expired expiration now) = spaced (codes "expired" ∷ decimal expiration.0 ∷ decimal now.0 ∷ [])
+decision_text (Other place) = spaced (codes "other" ∷ decimal place ∷ [])
+decision_text (Full count) = spaced (codes "full" ∷ decimal count ∷ [])
+decision_text BadOperation = codes "badop"
+
+abbrev pub role_text : Role → List ℕ
+role_text roles.Primary = codes "primary"
+role_text roles.Backup = codes "backup"
+
+-- the bytes of each line
+abbrev pub rendered : ReportLine → List ℕ
+rendered (lines.Group name id) =
+    line (codes "group" ∷ name ∷ decimal id.0 ∷ [])
+rendered (lines.View group version members primary) =
+    line (codes "view" ∷ group ∷ decimal version.0 ∷ codes "members" ∷ hosts_text members ∷ codes "primary" ∷ host_text primary ∷ [])
+rendered (lines.Attempt message client host id) =
+    line (codes "msg" ∷ decimal message ∷ codes "client" ∷ client ∷ codes "to host" ∷ decimal host.0 ∷ codes "request" ∷ decimal id ∷ [])
+rendered (lines.Reply message host client id shown) =
+    line (codes "msg" ∷ decimal message ∷ codes "host" ∷ decimal host.0 ∷ codes "to client" ∷ client ∷ codes "reply" ∷ decimal id ∷ shown_text shown ∷ [])
+rendered (lines.At host group decision) =
+    line (codes "at" ∷ decimal host.0 ∷ group ∷ decision_text decision ∷ [])
+rendered (lines.UnheardReply message) =
+    line (codes "ignored" ∷ decimal message ∷ codes "reply" ∷ [])
+rendered (lines.Done client call shown) =
+    line (codes "done" ∷ client ∷ decimal call ∷ shown_text shown ∷ [])
+rendered (lines.Busy client) =
+    line (codes "busy" ∷ client ∷ [])
+rendered (lines.Show group version entries mark time) =
+    line (codes "show" ∷ group ∷ codes "view" ∷ decimal version.0 ∷ codes "entries" ∷ decimal entries ∷ codes "mark" ∷ decimal mark ∷ codes "time" ∷ decimal time.0 ∷ [])
+rendered (lines.Member host role known position state) =
+    line (codes "member" ∷ decimal host.0 ∷ role_text role ∷ codes "known" ∷ decimal known.0 ∷ codes "at" ∷ decimal position ∷ codes "state" ∷ octets_text state ∷ [])

@@ -1,0 +1,43 @@
+-- Words, and how a line is made of them.
+use Rattle.std.specs.Prelude.{ℕ, ◌==◌, if◌then◌else◌, List, [], ◌∷◌, ◌++◌, length, map, Option, Some, None, codes, decimal}
+use Rattle.std.specs.Fmt.{signed_decimal}
+use Rattle.std.specs.List.{flat_map}
+use Rattle.hex.specs.Hex.{encode_lower}
+use Rattle.ft_base.specs.declared.numbers.HostNo.{HostNo}
+use Rattle.ft_report.specs.declared.words.Word.{Word}
+use Rattle.ft_report.specs.declared.words.Word.TheVariants.{Fixed, Text, Made, Number, Signed, Host}
+
+-- texts, with a byte between each two
+abbrev pub joined : ℕ → List (List ℕ) → List ℕ
+joined separator [] = []
+joined separator (text ∷ texts) = text ++ flat_map (λ next. separator ∷ next) texts
+
+-- words, with a space between each two
+abbrev pub spaced : List (List ℕ) → List ℕ
+spaced words = joined 32 words
+
+-- a line of these words, with its LF
+abbrev pub line : List (List ℕ) → List ℕ
+line words = spaced words ++ 10 ∷ []
+
+-- host numbers, with a comma between each two; `-` for none
+abbrev pub hosts_text : List ℕ → List ℕ
+hosts_text hosts = if length hosts == 0 then codes "-" else joined 44 (map decimal hosts)
+
+-- octets in hexadecimal; `-` for none
+abbrev pub octets_text : List ℕ → List ℕ
+octets_text octets = if length octets == 0 then codes "-" else encode_lower octets
+
+-- a host's number; `-` for none
+abbrev pub host_text : Option HostNo → List ℕ
+host_text None = codes "-"
+host_text (Some host) = decimal host.0
+
+-- a word's text
+abbrev pub word_text : Word → List ℕ
+word_text (Fixed text) = text.now
+word_text (Text text) = text.now
+word_text (Made text) = text.now
+word_text (Number number) = decimal number
+word_text (Signed number) = signed_decimal number
+word_text (Host host) = host_text host

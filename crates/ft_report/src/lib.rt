@@ -1,0 +1,14 @@
+//! The lines that `ftc run` writes: what each tells, and its bytes.
+#![tactic(auto)]
+
+mod outcomes;
+mod rendering;
+mod reports;
+mod words;
+
+pub use outcomes::{Shown, Worth, worth_of};
+pub use rendering::{render, render_all};
+pub use reports::{ReportLine, ReportLines, Role};
+
+#[cfg(test)]
+mod tests;

@@ -1,0 +1,332 @@
+ghost use Rattle.std.specs.Prelude.{◌≡◌, IfOk};
+ghost use Rattle.std.specs.List.{flat_map};
+ghost use Rattle.ft_report.specs.Report.{completed_text, decision_text, flag_text, kind_text, rendered, role_text, shown_text, worth_text};
+
+use crate::outcomes::{Shown, Worth};
+use crate::reports::{ReportLine, ReportLines, Role};
+use crate::words::Word::{Fixed, Host, Made, Number, Signed, Text};
+use crate::words::{hosts, octets, phrase, whole_line};
+use ft_base::{Bytes, Decision, HostNo, Members, Name, NoMemory, Tick, Version};
+use std::alloc::Global;
+use sys_faults::{Completed, SysFault, SysKind};
+
+fn flag_bytes(flag: bool) -> &'static [u8]
+    ensures { result.now ≡ flag_text flag }
+{
+    if flag { b"true" } else { b"false" }
+}
+
+fn completed_bytes(completed: Completed) -> &'static [u8]
+    ensures { result.now ≡ completed_text completed }
+{
+    match completed {
+        Completed::Yes => b"yes",
+        Completed::No => b"no",
+        Completed::Maybe => b"maybe",
+    }
+}
+
+fn role_bytes(role: Role) -> &'static [u8]
+    ensures { result.now ≡ role_text role }
+{
+    match role {
+        Role::Primary => b"primary",
+        Role::Backup => b"backup",
+    }
+}
+
+fn worth_bytes(alloc: Global, worth: &Worth) -> Result<Bytes, NoMemory>
+    ensures { IfOk result (λ bytes. bytes ≡ worth_text worth.now) }
+{
+    match worth {
+        Worth::Void => Bytes::of(alloc, b"void"),
+        Worth::Number(number) => phrase(alloc, &[Signed(*number)]),
+        Worth::Flag(flag) => Bytes::of(alloc, flag_bytes(*flag)),
+        Worth::Octets(bytes) => octets(alloc, bytes),
+    }
+}
+
+fn kind_bytes(alloc: Global, kind: &SysKind) -> Result<Bytes, NoMemory>
+    ensures { IfOk result (λ bytes. bytes ≡ kind_text kind.now) }
+{
+    if let SysKind::Unknown(id) = kind {
+        return octets(alloc, id);
+    }
+    match kind.name() {
+        Some(name) => Bytes::of(alloc, name),
+        None => unreachable!(),
+    }
+}
+
+fn shown_bytes(alloc: Global, shown: &Shown) -> Result<Bytes, NoMemory>
+    ensures { IfOk result (λ bytes. bytes ≡ shown_text shown.now) }
+{
+    match shown {
+        Shown::Value(worth) => {
+            let worth = worth_bytes(alloc, worth)?;
+            phrase(alloc, &[Fixed(b"value"), Made(worth.bytes())])
+        }
+        Shown::User(name) => phrase(alloc, &[Fixed(b"user"), Text(name.bytes())]),
+        Shown::System(fault) => {
+            let kind = kind_bytes(alloc, &fault.kind)?;
+            phrase(
+                alloc,
+                &[
+                    Fixed(b"system"),
+                    Made(kind.bytes()),
+                    Number(u64::from(fault.minor)),
+                    Fixed(completed_bytes(fault.completed)),
+                ],
+            )
+        }
+    }
+}
+
+fn decision_bytes(alloc: Global, decision: Decision) -> Result<Bytes, NoMemory>
+    ensures { IfOk result (λ bytes. bytes ≡ decision_text decision) }
+{
+    match decision {
+        Decision::Append(place) => phrase(alloc, &[Fixed(b"append"), Number(u64::from(place))]),
+        Decision::Repeat(place) => phrase(alloc, &[Fixed(b"repeat"), Number(u64::from(place))]),
+        Decision::Expired { expiration, now } => phrase(
+            alloc,
+            &[Fixed(b"expired"), Number(expiration.0), Number(now.0)],
+        ),
+        Decision::Other(place) => phrase(alloc, &[Fixed(b"other"), Number(u64::from(place))]),
+        Decision::Full(count) => phrase(alloc, &[Fixed(b"full"), Number(u64::from(count))]),
+        Decision::BadOperation => Bytes::of(alloc, b"badop"),
+    }
+}
+
+fn view_line(
+    alloc: Global,
+    group: &Name,
+    version: Version,
+    members: &Members,
+    primary: Option<HostNo>,
+) -> Result<Bytes, NoMemory>
+    ensures { IfOk result (λ bytes. bytes ≡ rendered (ReportLine.View group.now version members.now primary)) }
+{
+    let members = hosts(alloc, members)?;
+    whole_line(
+        alloc,
+        &[
+            Fixed(b"view"),
+            Text(group.bytes()),
+            Number(u64::from(version.0)),
+            Fixed(b"members"),
+            Made(members.bytes()),
+            Fixed(b"primary"),
+            Host(primary),
+        ],
+    )
+}
+
+fn attempt_line(
+    alloc: Global,
+    message: u64,
+    client: &Name,
+    host: HostNo,
+    id: u32,
+) -> Result<Bytes, NoMemory>
+    ensures { IfOk result (λ bytes. bytes ≡ rendered (ReportLine.Attempt message client.now host id)) }
+{
+    whole_line(
+        alloc,
+        &[
+            Fixed(b"msg"),
+            Number(message),
+            Fixed(b"client"),
+            Text(client.bytes()),
+            Fixed(b"to host"),
+            Number(u64::from(host.0)),
+            Fixed(b"request"),
+            Number(u64::from(id)),
+        ],
+    )
+}
+
+fn reply_line(
+    alloc: Global,
+    message: u64,
+    host: HostNo,
+    client: &Name,
+    id: u32,
+    shown: &Shown,
+) -> Result<Bytes, NoMemory>
+    ensures { IfOk result (λ bytes. bytes ≡ rendered (ReportLine.Reply message host client.now id shown.now)) }
+{
+    let shown = shown_bytes(alloc, shown)?;
+    whole_line(
+        alloc,
+        &[
+            Fixed(b"msg"),
+            Number(message),
+            Fixed(b"host"),
+            Number(u64::from(host.0)),
+            Fixed(b"to client"),
+            Text(client.bytes()),
+            Fixed(b"reply"),
+            Number(u64::from(id)),
+            Made(shown.bytes()),
+        ],
+    )
+}
+
+fn at_line(alloc: Global, host: HostNo, group: &Name, decision: Decision) -> Result<Bytes, NoMemory>
+    ensures { IfOk result (λ bytes. bytes ≡ rendered (ReportLine.At host group.now decision)) }
+{
+    let decision = decision_bytes(alloc, decision)?;
+    whole_line(
+        alloc,
+        &[
+            Fixed(b"at"),
+            Number(u64::from(host.0)),
+            Text(group.bytes()),
+            Made(decision.bytes()),
+        ],
+    )
+}
+
+fn done_line(alloc: Global, client: &Name, call: u32, shown: &Shown) -> Result<Bytes, NoMemory>
+    ensures { IfOk result (λ bytes. bytes ≡ rendered (ReportLine.Done client.now call shown.now)) }
+{
+    let shown = shown_bytes(alloc, shown)?;
+    whole_line(
+        alloc,
+        &[
+            Fixed(b"done"),
+            Text(client.bytes()),
+            Number(u64::from(call)),
+            Made(shown.bytes()),
+        ],
+    )
+}
+
+fn show_line(
+    alloc: Global,
+    group: &Name,
+    version: Version,
+    entries: u32,
+    mark: u32,
+    time: Tick,
+) -> Result<Bytes, NoMemory>
+    ensures { IfOk result (λ bytes. bytes ≡ rendered (ReportLine.Show group.now version entries mark time)) }
+{
+    whole_line(
+        alloc,
+        &[
+            Fixed(b"show"),
+            Text(group.bytes()),
+            Fixed(b"view"),
+            Number(u64::from(version.0)),
+            Fixed(b"entries"),
+            Number(u64::from(entries)),
+            Fixed(b"mark"),
+            Number(u64::from(mark)),
+            Fixed(b"time"),
+            Number(time.0),
+        ],
+    )
+}
+
+fn member_line(
+    alloc: Global,
+    host: HostNo,
+    role: Role,
+    known: Version,
+    position: u32,
+    state: &Bytes,
+) -> Result<Bytes, NoMemory>
+    ensures { IfOk result (λ bytes. bytes ≡ rendered (ReportLine.Member host role known position state.now)) }
+{
+    let state = octets(alloc, state)?;
+    let bytes = whole_line(
+        alloc,
+        &[
+            Fixed(b"member"),
+            Number(u64::from(host.0)),
+            Fixed(role_bytes(role)),
+            Fixed(b"known"),
+            Number(u64::from(known.0)),
+            Fixed(b"at"),
+            Number(u64::from(position)),
+            Fixed(b"state"),
+            Made(state.bytes()),
+        ],
+    )?;
+    Ok(bytes)
+}
+
+/// A line's bytes, with its LF.
+pub fn render(alloc: Global, line: &ReportLine) -> Result<Bytes, NoMemory>
+    ensures { IfOk result (λ bytes. bytes ≡ rendered line.now) }
+{
+    match line {
+        ReportLine::Group { name, id } => {
+            whole_line(alloc, &[Fixed(b"group"), Text(name.bytes()), Number(id.0)])
+        }
+        ReportLine::View {
+            group,
+            version,
+            members,
+            primary,
+        } => view_line(alloc, group, *version, members, *primary),
+        ReportLine::Attempt {
+            message,
+            client,
+            host,
+            id,
+        } => attempt_line(alloc, *message, client, *host, *id),
+        ReportLine::Reply {
+            message,
+            host,
+            client,
+            id,
+            shown,
+        } => reply_line(alloc, *message, *host, client, *id, shown),
+        ReportLine::At {
+            host,
+            group,
+            decision,
+        } => at_line(alloc, *host, group, *decision),
+        ReportLine::UnheardReply { message } => {
+            whole_line(
+                alloc,
+                &[Fixed(b"ignored"), Number(*message), Fixed(b"reply")],
+            )
+        }
+        ReportLine::Done {
+            client,
+            call,
+            shown,
+        } => done_line(alloc, client, *call, shown),
+        ReportLine::Busy { client } => whole_line(alloc, &[Fixed(b"busy"), Text(client.bytes())]),
+        ReportLine::Show {
+            group,
+            version,
+            entries,
+            mark,
+            time,
+        } => show_line(alloc, group, *version, *entries, *mark, *time),
+        ReportLine::Member {
+            host,
+            role,
+            known,
+            position,
+            state,
+        } => member_line(alloc, *host, *role, *known, *position, state),
+    }
+}
+
+/// The bytes of all lines, in order.
+pub fn render_all(alloc: Global, lines: &ReportLines) -> Result<Bytes, NoMemory>
+    ensures { IfOk result (λ bytes. bytes ≡ flat_map rendered lines.now) }
+{
+    let mut text = Vec::new(alloc);
+    for line in lines.as_slice() {
+        let bytes = render(alloc, line)?;
+        text.extend_from_slice(bytes.bytes())?;
+    }
+    Ok(Bytes::from_vec(text))
+}

@@ -1,0 +1,114 @@
+ghost use Rattle.std.specs.Prelude.{◌≡◌, ◌++◌, ◌∷◌, [], ℕ, map, decimal, IfOk, OnOk};
+ghost use Rattle.std.specs.List.{flat_map};
+ghost use Rattle.ft_report.specs.Words.{hosts_text, joined, line, octets_text, spaced, word_text};
+
+use ft_base::{Bytes, HostNo, Members, NoMemory};
+use itoa::Buffer;
+use std::alloc::Global;
+
+/// One word of a line. Texts that the line holds and texts that are made for it live for different
+/// times.
+#[derive(Clone, Copy)]
+pub enum Word<'a, 'b> {
+    /// A word of the line's form.
+    Fixed(&'static [u8]),
+    /// A text that the line holds.
+    Text(&'a [u8]),
+    /// A text that is made for the line.
+    Made(&'b [u8]),
+    Number(u64),
+    Signed(i64),
+    /// A host's number; `-` for none.
+    Host(Option<HostNo>),
+}
+
+fn push_word(text: &mut Vec<u8>, word: &Word) -> Result<(), NoMemory>
+    ensures { OnOk result (text.new.items ≡ text.old.items ++ word_text word.now) }
+{
+    let mut digits = Buffer::new();
+    match word {
+        Word::Fixed(part) => text.extend_from_slice(part)?,
+        Word::Text(part) => text.extend_from_slice(part)?,
+        Word::Made(part) => text.extend_from_slice(part)?,
+        Word::Number(number) => text.extend_from_slice(digits.format(*number).as_bytes())?,
+        Word::Signed(number) => text.extend_from_slice(digits.format(*number).as_bytes())?,
+        Word::Host(None) => text.extend_from_slice(b"-")?,
+        Word::Host(Some(host)) => text.extend_from_slice(digits.format(host.0).as_bytes())?,
+    }
+    Ok(())
+}
+
+fn push_each(text: &mut Vec<u8>, separator: u8, words: &[Word]) -> Result<(), NoMemory>
+    ensures { OnOk result (text.new.items ≡ text.old.items ++ flat_map (λ word. separator ∷ word_text word) words.now) }
+{
+    for word in words {
+        text.push(separator)?;
+        push_word(text, word)?;
+    }
+    Ok(())
+}
+
+fn join(alloc: Global, separator: u8, words: &[Word]) -> Result<Vec<u8>, NoMemory>
+    ensures { IfOk result (λ text. text.items ≡ joined separator (map word_text words.now)) }
+{
+    let mut text = Vec::new(alloc);
+    match words.split_first() {
+        None => Ok(text),
+        Some((first, rest)) => {
+            push_word(&mut text, first)?;
+            push_each(&mut text, separator, rest)?;
+            Ok(text)
+        }
+    }
+}
+
+/// The words, with a space between each two.
+pub fn phrase(alloc: Global, words: &[Word]) -> Result<Bytes, NoMemory>
+    ensures { IfOk result (λ bytes. bytes ≡ spaced (map word_text words.now)) }
+{
+    let text = join(alloc, b' ', words)?;
+    Ok(Bytes::from_vec(text))
+}
+
+/// A line of the words, with its LF.
+pub fn whole_line(alloc: Global, words: &[Word]) -> Result<Bytes, NoMemory>
+    ensures { IfOk result (λ bytes. bytes ≡ line (map word_text words.now)) }
+{
+    let mut text = join(alloc, b' ', words)?;
+    text.push(b'\n')?;
+    Ok(Bytes::from_vec(text))
+}
+
+fn host_words(alloc: Global, hosts: &[u8]) -> Result<Vec<Word<'static, 'static>>, NoMemory>
+    ensures { IfOk result (λ words. map word_text words.items ≡ map decimal hosts.now) }
+{
+    let mut words = Vec::new(alloc);
+    for host in hosts {
+        words.push(Word::Number(u64::from(*host)))?;
+    }
+    Ok(words)
+}
+
+/// Host numbers, with a comma between each two; `-` for none.
+pub fn hosts(alloc: Global, members: &Members) -> Result<Bytes, NoMemory>
+    ensures { IfOk result (λ bytes. bytes ≡ hosts_text members.now) }
+{
+    if members.len() == 0 {
+        return Bytes::of(alloc, b"-");
+    }
+    let words = host_words(alloc, members.hosts())?;
+    let text = join(alloc, b',', &words)?;
+    Ok(Bytes::from_vec(text))
+}
+
+/// Octets in hexadecimal; `-` for none.
+pub fn octets(alloc: Global, bytes: &Bytes) -> Result<Bytes, NoMemory>
+    ensures { IfOk result (λ text. text ≡ octets_text bytes.now) }
+{
+    let octets = bytes.bytes();
+    if octets.is_empty() {
+        return Bytes::of(alloc, b"-");
+    }
+    let text = hex::encode(alloc, octets)?;
+    Ok(Bytes::from_vec(text.into_bytes()))
+}

@@ -1,0 +1,9 @@
+pub mod KeptLemmas
+pub mod ServantLaws
+pub mod AdmissionLemmas
+pub mod PlaceLemmas
+pub mod SoundLemmas
+pub mod CallLemmas
+pub mod TurnLemmas
+pub mod ArriveLemmas
+pub mod OnceLemmas

@@ -1,0 +1,6 @@
+use Rattle.ft_world.specs.World.{empty}
+use Rattle.ft_world.proofs.OnceLemmas.{after_keeps}
+use Rattle.ft_world.proofs.laws.accepts_at_most_once.Goals as goal
+
+pub returns : goal.returns
+returns c = λ script. after_keeps empty script tt

@@ -1,0 +1,72 @@
+-- The whole run of a script: its output, status, error text and servant calls.
+use Rattle.std.specs.Prelude.{◌≡◌, ℕ, ◌<◌, ◌⊎◌, ◌++◌, List, [], ◌∷◌, length, map, take, codes, decimal, string_bytes, Option, Some, None, IfSome, option_map}
+use Rattle.std.specs.declared.string.String.{String}
+use Rattle.std.specs.declared.alloc.Global.{Global}
+use Rattle.ft_outside.specs.Outside.{Rose}
+use Rattle.fault_script.specs.Faults.{fault_text}
+use Rattle.fault_script.specs.declared.lines.LineFault.{LineFault}
+use Rattle.ft_world.specs.World.{empty}
+use Rattle.run_top.specs.Runs.{Ran, run}
+use Rattle.run_top.specs.Playing.{rules}
+
+pub record Run : Type 0 where
+  pub out : List ℕ
+  pub status : ℕ
+  pub err : List ℕ
+  pub calls : ℕ
+
+-- 0, or 3 where a line was refused
+abbrev pub status_of : Option (ℕ × LineFault) → ℕ
+status_of None = 0
+status_of (Some refused) = 3
+
+-- `ftc: line N: WHY`
+abbrev pub refusal_text : ℕ → LineFault → List ℕ
+refusal_text number why = codes "ftc: line " ++ decimal number ++ codes ": " ++ fault_text why ++ 10 ∷ []
+
+abbrev pub error_text : Option (ℕ × LineFault) → List ℕ
+error_text None = []
+error_text (Some refused) = refusal_text refused.0 refused.1
+
+abbrev pub finished : Ran LineFault → Run
+finished ran = record { out = ran.out; status = status_of ran.refused; err = error_text ran.refused; calls = ran.calls }
+
+-- the run of a script's bytes, from the empty world, up to the first line that is refused
+abbrev pub script_run : List ℕ → Run
+script_run bytes = finished (run rules empty bytes)
+
+-- a text was written whole, or the sink's count of faults rose and it holds a front of the text
+abbrev pub IsTold : Option (List ℕ) → Option (List ℕ) → ℕ → ℕ → List ℕ → Type 0
+IsTold before holds faults count text =
+    ((holds ≡ option_map (λ held. held ++ text) before) × (count ≡ faults))
+    ⊎ ((n : ℕ) × (n < length text) × (holds ≡ option_map (λ held. held ++ take n text) before) × Rose faults count)
+
+-- the words after the program's name are the one word `run`
+abbrev pub IsRun : List (String Global) → Type 0
+IsRun words = map string_bytes words ≡ codes "run" ∷ []
+
+abbrev pub usage_text : List ℕ
+usage_text = codes "ftc: usage: ftc run [--make N] | live --hosts H --clients C --calls K --style S [--kill X] [--after N]\n"
+
+-- what holds at status 0 or 3, where the source tells what it has left
+abbrev pub IfRan : ℕ → Option (List ℕ) → Type 0 → Type 0
+IfRan status told P = (status ≡ 0) ⊎ (status ≡ 3) → IfSome told (λ _. P)
+
+-- the statuses of the program
+abbrev pub IsStatus : ℕ → Type 0
+IsStatus status = (status ≡ 0) ⊎ ((status ≡ 2) ⊎ ((status ≡ 3) ⊎ ((status ≡ 4) ⊎ ((status ≡ 5) ⊎ (status ≡ 6)))))
+
+-- a run stays as it is whatever follows what was read, or nothing is left
+abbrev pub IsSettled : List ℕ → Option (List ℕ) → Type 0
+IsSettled bytes left =
+    ((more : List ℕ) → script_run (bytes ++ more) ≡ script_run bytes) ⊎ (left ≡ option_map (λ _. []) left)
+
+abbrev pub no_memory_text : List ℕ
+no_memory_text = codes "ftc: no memory\n"
+
+-- the text of each status that is no end of a run
+pub record IfFault (status : ℕ) (P : List ℕ → Type 0) : Type 0 where
+  pub usage : status ≡ 2 → P usage_text
+  pub read : status ≡ 4 → P (codes "ftc: read fault\n")
+  pub written : status ≡ 5 → P (codes "ftc: write fault\n")
+  pub memory : status ≡ 6 → P no_memory_text

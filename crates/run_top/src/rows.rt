@@ -1,0 +1,236 @@
+//! Worked scripts with their output, as tables on [`ftc_run`].
+ghost use Rattle.std.specs.Prelude.{◌≡◌, ◌<◌};
+
+use crate::ftc_run;
+use ft_base::{NoMemory, Steps};
+use ft_outside::{MemSink, MemSource};
+use std::alloc::Global;
+use std::marker::Brand;
+use std::process::Abort;
+use std::sync::ledger::{Blank, Ledger};
+
+struct Row {
+    script: &'static [u8],
+    status: u8,
+    out: &'static [u8],
+    err: &'static [u8],
+}
+
+const ROWS: [Row; 9] = [
+    Row {
+        script: b"",
+        status: 0,
+        out: b"",
+        err: b"",
+    },
+    // One deposit, its reply, and the group that it leaves.
+    Row {
+        script: b"hosts 1\ngroup bank account cold 0\nclient ann\ncall ann bank deposit 5\ndeliver 1\ndeliver 2\nshow bank\n",
+        status: 0,
+        out: b"group bank 1\nview bank 1 members 0 primary 0\nmsg 1 client ann to host 0 request 1\nat 0 bank append 0\nmsg 2 host 0 to client ann reply 1 value 5\ndone ann 1 value 5\nshow bank view 1 entries 1 mark 0 time 0\nmember 0 primary known 1 at 1 state 0000000000000005\n",
+        err: b"",
+    },
+    // The same request three times, one changed balance.
+    Row {
+        script: b"hosts 1\ngroup bank account cold 0\nclient ann\ncall ann bank deposit 5\ndeliver 1\ndeliver 1\ndeliver 1\n",
+        status: 0,
+        out: b"group bank 1\nview bank 1 members 0 primary 0\nmsg 1 client ann to host 0 request 1\nat 0 bank append 0\nmsg 2 host 0 to client ann reply 1 value 5\nat 0 bank repeat 0\nmsg 3 host 0 to client ann reply 1 value 5\nat 0 bank repeat 0\nmsg 4 host 0 to client ann reply 1 value 5\n",
+        err: b"",
+    },
+    // The same retention id with another amount.
+    Row {
+        script: b"hosts 1\ngroup bank account cold 0\nclient ann\ncall ann bank deposit 5\ndeliver 1\ndeliver 2\ncall ann bank deposit 6 ret=1\ndeliver 3\ndeliver 4\n",
+        status: 0,
+        out: b"group bank 1\nview bank 1 members 0 primary 0\nmsg 1 client ann to host 0 request 1\nat 0 bank append 0\nmsg 2 host 0 to client ann reply 1 value 5\ndone ann 1 value 5\nmsg 3 client ann to host 0 request 2\nat 0 bank other 0\nmsg 4 host 0 to client ann reply 2 system BAD_CONTEXT 2 no\ndone ann 2 system BAD_CONTEXT 2 no\n",
+        err: b"",
+    },
+    // The boundary of an expiration, of a new request and of a repeat.
+    Row {
+        script: b"hosts 1\ngroup bank account cold 0\nclient ann\nclient bob\ncall ann bank deposit 5 exp=100\ncall bob bank deposit 7 exp=100\ntick 99\ndeliver 1\ntick 1\ndeliver 1\ndeliver 2\n",
+        status: 0,
+        out: b"group bank 1\nview bank 1 members 0 primary 0\nmsg 1 client ann to host 0 request 1\nmsg 2 client bob to host 0 request 1\nat 0 bank append 0\nmsg 3 host 0 to client ann reply 1 value 5\nat 0 bank expired 100 100\nmsg 4 host 0 to client ann reply 1 system BAD_CONTEXT 1 no\nat 0 bank expired 100 100\nmsg 5 host 0 to client bob reply 1 system BAD_CONTEXT 1 no\n",
+        err: b"",
+    },
+    // Each user exception of the account, and an operation that it hasn't.
+    Row {
+        script: b"hosts 1\ngroup bank account cold 0\nclient ann\ncall ann bank deposit -1\ndeliver 1\ndeliver 2\ncall ann bank withdraw 1\ndeliver 3\ndeliver 4\ncall ann bank deposit 9223372036854775807\ndeliver 5\ndeliver 6\ncall ann bank deposit 1\ndeliver 7\ndeliver 8\ncall ann bank put\ndeliver 9\ndeliver 10\n",
+        status: 0,
+        out: b"group bank 1\nview bank 1 members 0 primary 0\nmsg 1 client ann to host 0 request 1\nat 0 bank append 0\nmsg 2 host 0 to client ann reply 1 user BadAmount\ndone ann 1 user BadAmount\nmsg 3 client ann to host 0 request 2\nat 0 bank append 1\nmsg 4 host 0 to client ann reply 2 user Insufficient\ndone ann 2 user Insufficient\nmsg 5 client ann to host 0 request 3\nat 0 bank append 2\nmsg 6 host 0 to client ann reply 3 value 9223372036854775807\ndone ann 3 value 9223372036854775807\nmsg 7 client ann to host 0 request 4\nat 0 bank append 3\nmsg 8 host 0 to client ann reply 4 user Overflow\ndone ann 4 user Overflow\nmsg 9 client ann to host 0 request 5\nat 0 bank badop\nmsg 10 host 0 to client ann reply 5 system BAD_OPERATION 1 no\ndone ann 5 system BAD_OPERATION 1 no\n",
+        err: b"",
+    },
+    // A retention id at the boundaries of its expirations: it has come, is held by another request, and is free again.
+    Row {
+        script: b"hosts 1\ngroup bank account cold 0\nclient ann\ntick 10\ncall ann bank deposit 1 ret=7 exp=10\ndeliver 1\ndeliver 2\ncall ann bank deposit 1 ret=7 exp=11\ndeliver 3\ndeliver 4\ncall ann bank deposit 1 ret=7 exp=12\ndeliver 5\ndeliver 6\ntick 1\ndeliver 5\n",
+        status: 0,
+        out: b"group bank 1\nview bank 1 members 0 primary 0\nmsg 1 client ann to host 0 request 1\nat 0 bank expired 10 10\nmsg 2 host 0 to client ann reply 1 system BAD_CONTEXT 1 no\ndone ann 1 system BAD_CONTEXT 1 no\nmsg 3 client ann to host 0 request 2\nat 0 bank append 0\nmsg 4 host 0 to client ann reply 2 value 1\ndone ann 2 value 1\nmsg 5 client ann to host 0 request 3\nat 0 bank other 0\nmsg 6 host 0 to client ann reply 3 system BAD_CONTEXT 2 no\ndone ann 3 system BAD_CONTEXT 2 no\nat 0 bank append 1\nmsg 7 host 0 to client ann reply 3 value 2\n",
+        err: b"",
+    },
+    Row {
+        script: b"hosts 1\nfrob\n",
+        status: 3,
+        out: b"",
+        err: b"ftc: line 2: syntax\n",
+    },
+    Row {
+        script: b"hosts 1\ncrash 1\n",
+        status: 3,
+        out: b"",
+        err: b"ftc: line 2: later\n",
+    },
+];
+
+// Scripts, each with the line that is refused and why, or with no error text.
+const REFUSALS: [(&[u8], &[u8]); 18] = [
+    (b"hosts 64\n", b""),
+    (b"hosts 65\n", b"ftc: line 1: limit hosts\n"),
+    (
+        b"hosts 99999999999999999999\n",
+        b"ftc: line 1: limit hosts\n",
+    ),
+    (b"hosts 0\n", b"ftc: line 1: syntax\n"),
+    (b"hosts 1\n\nhosts 1\n", b"ftc: line 3: again\n"),
+    (b"group g account cold 0\n", b"ftc: line 1: unknown\n"),
+    (
+        b"hosts 1\ngroup g account cold 0\ngroup g account cold 0\n",
+        b"ftc: line 3: again\n",
+    ),
+    (
+        b"hosts 1\ngroup g account cold 1\n",
+        b"ftc: line 2: unknown\n",
+    ),
+    (b"hosts 1\ngroup g store cold 0\n", b"ftc: line 2: later\n"),
+    (
+        b"hosts 1\ngroup g account cold 0 0\n",
+        b"ftc: line 2: later\n",
+    ),
+    (
+        b"hosts 1\ngroup g account cold x\n",
+        b"ftc: line 2: syntax\n",
+    ),
+    (b"client ann\nclient ann\n", b"ftc: line 2: again\n"),
+    (b"deliver 00000000000000000001\n", b"ftc: line 1: unknown\n"),
+    (b"deliver 000000000000000000001\n", b"ftc: line 1: syntax\n"),
+    (
+        b"tick 4294967295\ntick 4294967296\n",
+        b"ftc: line 2: syntax\n",
+    ),
+    (b"show ann\n", b"ftc: line 1: unknown\n"),
+    (
+        b"hosts 1\ngroup g account cold 0\ncall ann g deposit\n",
+        b"ftc: line 3: syntax\n",
+    ),
+    (
+        b"hosts 1\ngroup g account cold 0\ncall ann g deposit 1",
+        b"ftc: line 3: unknown\n",
+    ),
+];
+
+// The status, the output and the error text of a script, over a sink whose writes of these numbers fail.
+fn run<L: Ledger>(
+    alloc: Global,
+    words: &[String],
+    script: &[u8],
+    fails: &[u64],
+    steps: &mut Steps<L>,
+) -> Result<(u8, MemSink, MemSink), NoMemory> {
+    let mut input = MemSource::new(alloc, script, &[])?;
+    let mut out = MemSink::new(alloc, 10_000, fails)?;
+    let mut err = MemSink::new(alloc, 1_000, &[])?;
+    let status = ftc_run(alloc, words, &mut input, &mut out, &mut err, steps);
+    Ok((status, out, err))
+}
+
+fn each_row<L: Ledger>(rt: &impl Abort, alloc: Global, blank: Blank) -> Result<(), NoMemory>
+    requires name { blank.name ≡ L.name }
+    requires parts { blank.parts ≡ L.parts }
+    requires some { 0 < blank.parts }
+{
+    let mut steps = Steps::<L>::new(blank);
+    let words = vec![in alloc; String::from_str(alloc, "run")?]?;
+    for row in &ROWS {
+        let (status, out, err) = run(alloc, words.as_slice(), row.script, &[], &mut steps)?;
+        assert_eq!(rt; out.bytes(), row.out);
+        assert_eq!(rt; err.bytes(), row.err);
+        assert_eq!(rt; status, row.status);
+    }
+    Ok(())
+}
+
+fn check_refusal<L: Ledger>(
+    rt: &impl Abort,
+    alloc: Global,
+    words: &[String],
+    script: &[u8],
+    wanted: &[u8],
+    steps: &mut Steps<L>,
+) -> Result<(), NoMemory> {
+    let (status, _, err) = run(alloc, words, script, &[], steps)?;
+    assert_eq!(rt; err.bytes(), wanted);
+    assert_eq!(rt; status, if wanted.is_empty() { 0 } else { 3 });
+    Ok(())
+}
+
+fn each_refusal<L: Ledger>(rt: &impl Abort, alloc: Global, blank: Blank) -> Result<(), NoMemory>
+    requires name { blank.name ≡ L.name }
+    requires parts { blank.parts ≡ L.parts }
+    requires some { 0 < blank.parts }
+{
+    let mut steps = Steps::<L>::new(blank);
+    let words = vec![in alloc; String::from_str(alloc, "run")?]?;
+    for (script, wanted) in &REFUSALS {
+        check_refusal(rt, alloc, words.as_slice(), script, wanted, &mut steps)?;
+    }
+    let line = vec![in alloc; b'#'; 4_096]?;
+    check_refusal(
+        rt,
+        alloc,
+        words.as_slice(),
+        line.as_slice(),
+        b"",
+        &mut steps,
+    )?;
+    let line = vec![in alloc; b'#'; 4_097]?;
+    check_refusal(
+        rt,
+        alloc,
+        words.as_slice(),
+        line.as_slice(),
+        b"ftc: line 1: limit line\n",
+        &mut steps,
+    )
+}
+
+#[test]
+fn each_refusal_has_its_line(rt: HostRuntime) -> Result<(), NoMemory> {
+    each_refusal::<Brand>(&rt, rt.alloc(), Blank::new(1))
+}
+
+#[test]
+fn scripts_write_their_output(rt: HostRuntime) -> Result<(), NoMemory> {
+    each_row::<Brand>(&rt, rt.alloc(), Blank::new(1))
+}
+
+fn each_end<L: Ledger>(rt: &impl Abort, alloc: Global, blank: Blank) -> Result<(), NoMemory>
+    requires name { blank.name ≡ L.name }
+    requires parts { blank.parts ≡ L.parts }
+    requires some { 0 < blank.parts }
+{
+    let mut steps = Steps::<L>::new(blank);
+    let words = vec![in alloc; String::from_str(alloc, "run")?]?;
+    let (status, out, err) = run(alloc, words.as_slice(), ROWS[1].script, &[2], &mut steps)?;
+    assert_eq!(rt;
+        out.bytes(),
+        b"group bank 1\nview bank 1 members 0 primary 0\n".as_slice()
+    );
+    assert_eq!(rt; err.bytes(), b"ftc: write fault\n".as_slice());
+    assert_eq!(rt; status, 5);
+    let (status, out, _) = run(alloc, &[], ROWS[1].script, &[], &mut steps)?;
+    assert_eq!(rt; out.bytes(), b"".as_slice());
+    assert_eq!(rt; status, 2);
+    Ok(())
+}
+
+#[test]
+fn faults_and_words_have_their_status(rt: HostRuntime) -> Result<(), NoMemory> {
+    each_end::<Brand>(&rt, rt.alloc(), Blank::new(1))
+}

@@ -1,0 +1,127 @@
+ghost use Rattle.std.specs.Prelude.{◌≡◌, ◌≢◌, ◌+◌, ◌-◌, ◌^◌, ◌<◌, ◌↔◌, ◌⊎◌, ◌++◌, ◌==◌, if◌then◌else◌, [], ◌∷◌, codes, map, IfOk, IfSome, IsTrue, option_map, string_bytes};
+ghost use Rattle.std.specs.String.{string_bytes};
+ghost use Rattle.ft_outside.specs.Outside.{Rose};
+ghost use Rattle.run_top.specs.Feeds.{Gained};
+ghost use Rattle.run_top.specs.Scripts.{bytes_read};
+ghost use Rattle.run_top.specs.Headline.{IfFault, IfRan, IsRun, IsSettled, IsStatus, IsTold, no_memory_text, refusal_text, script_run};
+
+use crate::playing::Script;
+use crate::scripts::{Ended, run_script};
+use fault_script::LineFault;
+use ft_base::{NoMemory, Steps};
+use ft_outside::{Sink, Source, Wrote, write_all};
+use itoa::Buffer;
+use std::alloc::Global;
+use std::sync::ledger::Ledger;
+
+// The words are the one word `run`.
+fn is_run(words: &[String]) -> bool
+    ensures { IsTrue result ↔ IsRun words.now }
+{
+    match words {
+        [word] => word.as_str() == "run",
+        _ => false,
+    }
+}
+
+// `ftc: line N: WHY`
+fn refusal_line(alloc: Global, number: u64, why: LineFault) -> Result<Vec<u8>, NoMemory>
+    ensures { IfOk result (λ text. text.items ≡ refusal_text number why) }
+{
+    let mut buffer = Buffer::new();
+    let mut text = Vec::from_slice(alloc, b"ftc: line ")?;
+    text.extend_from_slice(buffer.format(number).as_bytes())?;
+    text.extend_from_slice(b": ")?;
+    text.extend_from_slice(why.text())?;
+    text.push(b'\n')?;
+    Ok(text)
+}
+
+// Ends with a status; a fault of the sink of errors changes nothing of it.
+fn end<E: Sink>(err: &mut E, status: u8, text: &[u8]) -> u8
+    ensures status { result ≡ status }
+    ensures told { IsTold (E.holds err.old) (E.holds err.new) (E.count err.old) (E.count err.new) text.now }
+{
+    match write_all(err, text) {
+        Wrote::All => status,
+        Wrote::Failed => status,
+    }
+}
+
+// A refused line ends with 3 and its text, or with 6 where no memory is found for the text.
+fn refuse<E: Sink>(alloc: Global, err: &mut E, number: u64, why: LineFault) -> u8
+    ensures status { (result ≡ 3) ⊎ (result ≡ 6) }
+    ensures refused { result ≡ 3 → IsTold (E.holds err.old) (E.holds err.new) (E.count err.old) (E.count err.new) (refusal_text number why) }
+    ensures starved { result ≡ 6 → IsTold (E.holds err.old) (E.holds err.new) (E.count err.old) (E.count err.new) no_memory_text }
+{
+    match refusal_line(alloc, number, why) {
+        Ok(text) => end(err, 3, text.as_slice()),
+        Err(NoMemory) => end(err, 6, b"ftc: no memory\n"),
+    }
+}
+
+/// `ftc run`: runs the script that the source gives, and answers the status of the program, with its
+/// text on the sink of errors where it is not 0.
+///
+/// | status | when |
+/// |---|---|
+/// | 0 | the script was read to its end, and all was written |
+/// | 2 | the words are of no form |
+/// | 3 | a line was refused |
+/// | 4 | the source failed |
+/// | 5 | the sink of output failed |
+/// | 6 | want of memory |
+pub fn ftc_run<A: Source, B: Sink, E: Sink, L: Ledger>(
+    alloc: Global,
+    words: &[String],
+    input: &mut A,
+    out: &mut B,
+    err: &mut E,
+    steps: &mut Steps<L>,
+) -> u8
+    // No other status is answered.
+    ensures statuses { IsStatus result }
+    ensures usage { (result ≡ 2) ↔ (¬ IsRun words.now) }
+
+    // Where the source tells what it has left: at status 0 or 3 the run is that of the bytes read.
+    ensures status { IfRan result (A.left input.old) (result ≡
+        (script_run (bytes_read (A.left input.old) (A.left input.new))).status) }
+    ensures output { IfRan result (A.left input.old) (Gained (B.holds out.old) (B.holds out.new)
+        (script_run (bytes_read (A.left input.old) (A.left input.new))).out) }
+    ensures errors { IfRan result (A.left input.old) (IsTold (E.holds err.old) (E.holds err.new) (E.count err.old) (E.count err.new)
+        (script_run (bytes_read (A.left input.old) (A.left input.new))).err) }
+    ensures calls { IfRan result (A.left input.old) (steps.new ≡ steps.old +
+        (script_run (bytes_read (A.left input.old) (A.left input.new))).calls) }
+
+    // At 0 the source is at its end. At 3 the refusal stands whatever follows, or the source is at its end.
+    ensures at_end { result ≡ 0 → A.left input.new ≡ option_map (λ _. []) (A.left input.new) }
+    ensures settled { result ≡ 3 → IfSome (A.left input.old) (λ _. IsSettled
+        (bytes_read (A.left input.old) (A.left input.new)) (A.left input.new)) }
+
+    // A fault is answered exactly where the count of its object rose.
+    ensures read_fault { result ≡ 4 → Rose (A.count input.old) (A.count input.new) }
+    ensures no_read_fault { result ≢ 4 → A.count input.new ≡ A.count input.old }
+    ensures write_fault { result ≡ 5 → Rose (B.count out.old) (B.count out.new) }
+    ensures no_write_fault { result ≢ 5 → B.count out.new ≡ B.count out.old }
+
+    // What the sink of errors is told otherwise, and that faulty words do nothing else.
+    ensures fault_text { IfFault result (λ text.
+        IsTold (E.holds err.old) (E.holds err.new) (E.count err.old) (E.count err.new) text) }
+    ensures untouched { result ≡ 2 → (B.holds out.new ≡ B.holds out.old) × (steps.new ≡ steps.old) × (A.left input.new ≡ A.left input.old) }
+{
+    if !is_run(words) {
+        return end(
+            err,
+            2,
+            b"ftc: usage: ftc run [--make N] | live --hosts H --clients C --calls K --style S [--kill X] [--after N]\n",
+        );
+    }
+    let mut script = Script::new(alloc);
+    match run_script(alloc, &mut script, input, out, steps) {
+        Ended::Done => 0,
+        Ended::Refused(number, why) => refuse(alloc, err, number, why),
+        Ended::ReadFailed => end(err, 4, b"ftc: read fault\n"),
+        Ended::WriteFailed => end(err, 5, b"ftc: write fault\n"),
+        Ended::NoMemory => end(err, 6, b"ftc: no memory\n"),
+    }
+}

@@ -1,0 +1,85 @@
+ghost use Rattle.std.specs.Prelude.{◌≡◌, ◌<◌, ◌^◌, ◌≤ℤ◌, ℕ, pos};
+ghost use Rattle.servant_account.specs.Account.{account_machine, state_of};
+ghost use Rattle.servant_account.specs.Laws as laws;
+
+use crate::operations::{Operation, number_bytes};
+use ft_base::{Bytes, Name, NoMemory, Outcome, Request, Servant, Signature, Steps};
+use std::alloc::Global;
+use std::marker::Model;
+use std::sync::ledger::Ledger;
+
+/// An account (`IDL:ftc/Account:1.0`). It is seen as its balance, from 0 to
+/// 9,223,372,036,854,775,807.
+#[derive(Drop)]
+pub struct Account {
+    balance: u64,
+}
+
+impl Model for Account {
+    ghost Value = { ℕ };
+
+    ghost view = { λ a. a.balance };
+
+    ghost invariant = { λ a. a.balance < 2 ^ 63 };
+}
+
+impl Account {
+    /// An account with this balance.
+    pub fn new(balance: i64) -> Account
+        requires { pos 0 ≤ℤ balance }
+        ensures { pos result ≡ balance }
+    {
+        Account {
+            balance: balance as u64,
+        }
+    }
+}
+
+/// A deposit, a withdrawal and a look at the balance. The first two are refused with `BadAmount`
+/// where the amount is negative, a deposit with `Overflow` where the sum would be no balance, and
+/// a withdrawal with `Insufficient` where it is above the balance; a refusal changes nothing.
+impl Servant for Account {
+    ghost machine = { λ _. account_machine };
+
+    ghost kind = { λ _. 0 };
+
+    ghost state = { state_of };
+
+    fn signature(&self, op: &Name) -> Option<Signature> {
+        match Operation::named(op) {
+            Some(operation) => Some(operation.signature()),
+            None => None,
+        }
+    }
+
+    #[tactic(auto, using(crate::specs::Laws::step_ran))]
+    fn invoke<L: Ledger>(
+        &mut self,
+        alloc: Global,
+        request: &Request,
+        steps: &mut Steps<L>,
+    ) -> Result<Outcome, NoMemory> {
+        steps.tick();
+        let operation = match Operation::named(&request.op) {
+            Some(operation) => operation,
+            None => unreachable!(),
+        };
+        match operation.run(alloc, self.balance, &request.args) {
+            Ok((balance, outcome)) => {
+                self.balance = balance;
+                Ok(outcome)
+            }
+            Err(NoMemory) => Err(NoMemory),
+        }
+    }
+
+    fn get_state(&self, alloc: Global) -> Result<Bytes, NoMemory> {
+        number_bytes(alloc, self.balance)
+    }
+
+    ghost has_state = { laws.has_state };
+
+    ghost stays = { laws.stays };
+
+    ghost gives = { laws.gives };
+}

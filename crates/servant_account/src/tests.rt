@@ -1,0 +1,160 @@
+ghost use Rattle.std.specs.Prelude.{◌≡◌, ◌<◌, Some, length, IfOk};
+ghost use Rattle.ft_base.specs.Machine.{Fits, FitsAs};
+ghost use Rattle.servant_account.specs.Account.{account_machine};
+ghost use Rattle.servant_account.specs.Operations.{operation_of, signature_of};
+
+use crate::accounts::Account;
+use crate::operations::{Operation, number_bytes};
+use ft_base::{Bytes, Name, NoMemory, Outcome, Request, Servant, Steps};
+use std::alloc::Global;
+use std::marker::Brand;
+use std::process::Abort;
+use std::sync::ledger::{Blank, Ledger};
+
+fn name_of(operation: Operation) -> &'static [u8]
+    ensures name { operation_of result.now ≡ Some operation }
+    ensures short { length result.now < 256 }
+{
+    match operation {
+        Operation::Deposit => b"deposit",
+        Operation::Withdraw => b"withdraw",
+        Operation::Balance => b"balance",
+    }
+}
+
+fn args_of(alloc: Global, operation: Operation, amount: u64) -> Result<Bytes, NoMemory>
+    ensures { IfOk result (λ args. FitsAs (Some (signature_of operation)) args) }
+{
+    match operation {
+        Operation::Balance => Ok(Bytes::from_vec(Vec::new(alloc))),
+        _ => {
+            let args = number_bytes(alloc, amount)?;
+            Ok(args)
+        }
+    }
+}
+
+fn request_of(alloc: Global, operation: Operation, amount: u64) -> Result<Request, NoMemory>
+    ensures { IfOk result (λ request. Fits account_machine request) }
+{
+    let op = match Name::of(alloc, name_of(operation)) {
+        Ok(op) => op,
+        Err(_) => return Err(NoMemory),
+    };
+    let args = args_of(alloc, operation, amount)?;
+    Ok(Request {
+        key: None,
+        op,
+        args,
+    })
+}
+
+// The opening balance, the amount's eight bytes, the exception (none where a balance is told), and
+// the balance after: at the boundaries of each operation.
+const ROWS: [(Operation, i64, u64, &str, u64); 14] = [
+    (Operation::Deposit, 0, 5, "", 5),
+    (Operation::Deposit, 7, 0, "", 7),
+    (
+        Operation::Deposit,
+        0,
+        0x7fff_ffff_ffff_ffff,
+        "",
+        0x7fff_ffff_ffff_ffff,
+    ),
+    (
+        Operation::Deposit,
+        0x7fff_ffff_ffff_fffe,
+        1,
+        "",
+        0x7fff_ffff_ffff_ffff,
+    ),
+    (
+        Operation::Deposit,
+        0x7fff_ffff_ffff_fffe,
+        2,
+        "Overflow",
+        0x7fff_ffff_ffff_fffe,
+    ),
+    (
+        Operation::Deposit,
+        0x7fff_ffff_ffff_ffff,
+        0x7fff_ffff_ffff_ffff,
+        "Overflow",
+        0x7fff_ffff_ffff_ffff,
+    ),
+    (Operation::Deposit, 9, 0xffff_ffff_ffff_ffff, "BadAmount", 9),
+    (Operation::Deposit, 9, 0x8000_0000_0000_0000, "BadAmount", 9),
+    (Operation::Withdraw, 9, 9, "", 0),
+    (Operation::Withdraw, 9, 10, "Insufficient", 9),
+    (Operation::Withdraw, 0, 0, "", 0),
+    (Operation::Withdraw, 0, 1, "Insufficient", 0),
+    (
+        Operation::Withdraw,
+        9,
+        0xffff_ffff_ffff_ffff,
+        "BadAmount",
+        9,
+    ),
+    (Operation::Balance, 9, 0, "", 9),
+];
+
+fn each_row<L: Ledger>(
+    rt: &impl Abort,
+    alloc: Global,
+    steps: &mut Steps<L>,
+) -> Result<(), NoMemory> {
+    for (operation, opening, amount, exception, left) in &ROWS {
+        assert!(rt; *opening >= 0);
+        let mut account = Account::new(*opening);
+        let request = request_of(alloc, *operation, *amount)?;
+        let outcome = account.invoke(alloc, &request, steps)?;
+        let state = account.get_state(alloc)?;
+        assert!(rt;
+            state.bytes() == left.to_be_bytes().as_slice(),
+            "{operation:?} {amount}: the state"
+        );
+        match &outcome {
+            Outcome::Value(value) => {
+                assert_eq!(rt; *exception, "", "{operation:?} {amount}");
+                assert!(rt; value.is(&state), "{operation:?} {amount}: the value");
+            }
+            Outcome::User(name) => {
+                assert!(rt;
+                    name.bytes() == exception.as_bytes(),
+                    "{operation:?} {amount}"
+                );
+            }
+        }
+    }
+    Ok(())
+}
+
+fn counted<L: Ledger>(rt: &impl Abort, alloc: Global, blank: Blank) -> Result<(), NoMemory>
+    requires name { blank.name ≡ L.name }
+    requires parts { blank.parts ≡ L.parts }
+    requires some { 0 < blank.parts }
+{
+    let mut steps = Steps::<L>::new(blank);
+    each_row(rt, alloc, &mut steps)
+}
+
+#[test]
+fn boundaries(rt: HostRuntime) -> Result<(), NoMemory> {
+    counted::<Brand>(&rt, rt.alloc(), Blank::new(1))
+}
+
+#[test]
+fn signatures(rt: HostRuntime) -> Result<(), NoMemory> {
+    let alloc = rt.alloc();
+    let account = Account::new(0);
+    for (text, parameters) in [("deposit", 1), ("withdraw", 1), ("balance", 0)] {
+        let Ok(op) = Name::of(alloc, text.as_bytes()) else {
+            return Err(NoMemory);
+        };
+        let found = account.signature(&op).map(|signature| {
+            u8::from(signature.first.is_some()) + u8::from(signature.second.is_some())
+        });
+        assert!(rt; found == Some(parameters), "{text}");
+    }
+    Ok(())
+}
