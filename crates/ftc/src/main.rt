@@ -5,7 +5,7 @@
 ghost use Rattle.std.specs.Prelude.{◌≡◌, ◌<◌};
 
 use ft_base::Steps;
-use ft_outside::{StdSink, StdSource};
+use ft_outside::{StdSink, StdSource, write_all};
 use run_top::ftc_run;
 use std::marker::Brand;
 use std::process::ExitCode;
@@ -42,10 +42,24 @@ fn run_counted<L: Ledger>(rt: &HostRuntime, words: &[String], blank: Blank) -> u
     )
 }
 
+// The status where no memory is found for the words.
+fn starved(rt: &HostRuntime) -> u8
+    ensures { result ≡ 6 }
+{
+    let mut err = StdSink::new(rt.stderr());
+    let _ = write_all(&mut err, b"ftc: no memory\n");
+    6
+}
+
 fn main(rt: HostRuntime) -> ExitCode {
     let words = match words_of(&rt) {
         Ok(words) => words,
-        Err(_) => Vec::new(rt.alloc()),
+        Err(error) => {
+            if error.kind() == io::ErrorKind::OutOfMemory {
+                return ExitCode::from(starved(&rt));
+            }
+            Vec::new(rt.alloc())
+        }
     };
     ExitCode::from(run_counted::<Brand>(&rt, words.as_slice(), Blank::new(1)))
 }
