@@ -1,0 +1,77 @@
+-- The version and the key that a list of service contexts tells, and the order of refusals.
+use Rattle.std.specs.Prelude.{◌≡◌, ℕ, ◌+◌, ◌==◌, ◌<◌, ◌^◌, Bool, false, nat_lt, if◌then◌else◌, List, length, Option, Some, None, option_map, Result, Ok, Err}
+use Rattle.std.specs.List.{filter, find}
+use Rattle.cdr_codec.specs.declared.faults.CdrWhy.{CdrWhy}
+use Rattle.cdr_codec.specs.Reading.{Fault, ◌>>=◌}
+use Rattle.cdr_codec.specs.Formats.{Format}
+use Rattle.cdr_codec.specs.Encapsulations.{Encapsulates}
+use Rattle.ft_contexts.specs.declared.lists.Context.{Context}
+use Rattle.ft_contexts.specs.declared.lists.FtContexts.{FtContexts}
+use Rattle.ft_contexts.specs.declared.faults.ContextFault.{ContextFault}
+use Rattle.ft_contexts.specs.declared.faults.ContextFault.TheVariants.{Twice, Bad, NoMemory}
+use Rattle.ft_contexts.specs.Contents.{group_version, request, held}
+
+-- a content whose places fit an unsigned long
+abbrev pub IsShort : Context → Type 0
+IsShort context = length context.content + 8 < 2 ^ 32
+
+abbrev pub has_id : ℕ → Context → Bool
+has_id id context = context.id == id
+
+abbrev pub with_id : ℕ → List Context → List Context
+with_id id contexts = filter (has_id id) contexts
+
+abbrev pub stands_twice : ℕ → List Context → Bool
+stands_twice id contexts = nat_lt 1 (length (with_id id contexts))
+
+-- the content of the first context with this id
+abbrev pub content_of : ℕ → List Context → Option (List ℕ)
+content_of id contexts = option_map (λ context. context.content) (find (has_id id) contexts)
+
+abbrev pub or_bad : {X : Type 0} → ℕ → Result X (Fault CdrWhy) → Result (Option X) ContextFault
+or_bad id (Ok x) = Ok (Some x)
+or_bad id (Err wrong) = Err (Bad id wrong.place)
+
+abbrev pub found_in : {X : Type 0} → Format CdrWhy X → ℕ → Option (List ℕ) → Result (Option X) ContextFault
+found_in f id None = Ok None
+found_in f id (Some piece) = or_bad id (held f piece)
+
+-- the value in the context with this id, if that context is there
+abbrev pub found_by : {X : Type 0} → Format CdrWhy X → ℕ → List Context → Result (Option X) ContextFault
+found_by f id contexts = found_in f id (content_of id contexts)
+
+-- neither of the two may stand twice; then each is read that is there
+abbrev pub contexts_of : List Context → Result FtContexts ContextFault
+contexts_of contexts =
+    if stands_twice 12 contexts then Err (Twice 12)
+    else (if stands_twice 13 contexts then Err (Twice 13)
+    else (found_by group_version 12 contexts >>= λ version. found_by request 13 contexts >>= λ key.
+    Ok (record { version = version; key = key })))
+
+-- a content is the encapsulation of this value; where there is none, there is no value
+abbrev pub IsFoundIn : {X : Type 0} → Format CdrWhy X → Option (List ℕ) → Option X → Type 0
+IsFoundIn f None None = Unit {0}
+IsFoundIn f None (Some x) = ⊥
+IsFoundIn f (Some piece) None = ⊥
+IsFoundIn f (Some piece) (Some x) = Encapsulates f.Spelled piece x
+
+-- each of the two stands at most once, and encapsulates the value
+pub record AreFound (contexts : List Context) (found : FtContexts) : Type 0 where
+  pub one_version : stands_twice 12 contexts ≡ false
+  pub one_key : stands_twice 13 contexts ≡ false
+  pub version : IsFoundIn group_version (content_of 12 contexts) found.version
+  pub key : IsFoundIn request (content_of 13 contexts) found.key
+
+-- a fact of each refusal that isn't want of memory
+abbrev pub Refuses : {X : Type 0} → Result X ContextFault → Type 0 → Type 0
+Refuses (Ok x) P = Unit {0}
+Refuses (Err NoMemory) P = Unit {0}
+Refuses (Err (Twice id)) P = P
+Refuses (Err (Bad id place)) P = P
+
+-- a call answered this, or that there is no memory
+abbrev pub Answers : {X : Type 0} → Result X ContextFault → Result X ContextFault → Type 0
+Answers (Ok x) value = value ≡ Ok x
+Answers (Err NoMemory) value = Unit {0}
+Answers (Err (Twice id)) value = value ≡ Err (Twice id)
+Answers (Err (Bad id place)) value = value ≡ Err (Bad id place)

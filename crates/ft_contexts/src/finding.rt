@@ -1,0 +1,93 @@
+ghost use Rattle.std.specs.Prelude.{◌≡◌, ◌+◌, ◌<◌, ◌^◌, length, IfOk, IfSome, option_map};
+ghost use Rattle.std.specs.List.{All};
+ghost use Rattle.ft_contexts.specs.declared.lists.FtContexts.{FtContexts as Told};
+ghost use Rattle.ft_contexts.specs.Contents.{group_version, request};
+ghost use Rattle.ft_contexts.specs.Finding.{IsShort, with_id, stands_twice, content_of, found_by, contexts_of, AreFound, Answers, Refuses};
+
+use crate::faults::ContextFault;
+use crate::lists::{Context, Contexts, FT_GROUP_VERSION, FT_REQUEST, FtContexts};
+use crate::reading::{KeyFault, key_in, version_in};
+use ft_base::{Key, Version};
+use std::alloc::Global;
+
+fn count_of(contexts: &[Context], id: u32) -> usize
+    ensures { result ≡ length (with_id id contexts.now) }
+{
+    contexts.iter().filter(|context| context.id == id).count()
+}
+
+fn is_twice(contexts: &[Context], id: u32) -> bool
+    ensures { result ≡ stands_twice id contexts.now }
+{
+    count_of(contexts, id) > 1
+}
+
+fn content_of(contexts: &[Context], id: u32) -> Option<&[u8]>
+    requires { All IsShort contexts.now }
+    ensures content { option_map (λ piece. piece.now) result ≡ content_of id contexts.now }
+    ensures short { IfSome result (λ piece. length piece.now + 8 < 2 ^ 32) }
+{
+    match contexts.iter().find(|context| context.id == id) {
+        Some(context) => Some(context.content.bytes()),
+        None => None,
+    }
+}
+
+fn find_version(contexts: &[Context]) -> Result<Option<Version>, ContextFault>
+    requires { All IsShort contexts.now }
+    ensures { result ≡ found_by group_version 12 contexts.now }
+{
+    match content_of(contexts, FT_GROUP_VERSION) {
+        None => Ok(None),
+        Some(piece) => match version_in(piece) {
+            Ok(version) => Ok(Some(version)),
+            Err(fault) => Err(ContextFault::Bad {
+                id: FT_GROUP_VERSION,
+                place: fault.place,
+            }),
+        },
+    }
+}
+
+fn find_key(alloc: Global, contexts: &[Context]) -> Result<Option<Key>, ContextFault>
+    requires { All IsShort contexts.now }
+    ensures { Answers result (found_by request 13 contexts.now) }
+{
+    match content_of(contexts, FT_REQUEST) {
+        None => Ok(None),
+        Some(piece) => match key_in(alloc, piece) {
+            Ok(key) => Ok(Some(key)),
+            Err(KeyFault::Cdr(fault)) => Err(ContextFault::Bad {
+                id: FT_REQUEST,
+                place: fault.place,
+            }),
+            Err(KeyFault::NoMemory) => Err(ContextFault::NoMemory),
+        },
+    }
+}
+
+fn find_exactly(alloc: Global, contexts: &[Context]) -> Result<FtContexts, ContextFault>
+    requires { All IsShort contexts.now }
+    ensures { Answers result (contexts_of contexts.now) }
+{
+    if is_twice(contexts, FT_GROUP_VERSION) {
+        return Err(ContextFault::Twice(FT_GROUP_VERSION));
+    }
+    if is_twice(contexts, FT_REQUEST) {
+        return Err(ContextFault::Twice(FT_REQUEST));
+    }
+    let version = find_version(contexts)?;
+    let key = find_key(alloc, contexts)?;
+    Ok(FtContexts { version, key })
+}
+
+/// The version and the key that the contexts tell, each where its context is there. Contexts of
+/// other ids are ignored, and so is what follows the last field of these two.
+pub fn find_contexts(alloc: Global, contexts: &Contexts) -> Result<FtContexts, ContextFault>
+    requires { All IsShort contexts.now }
+    ensures found { IfOk result (λ found. AreFound contexts.now found) }
+    ensures refused { Refuses result ((found : Told) → AreFound contexts.now found → ⊥) }
+    ensures value { Answers result (contexts_of contexts.now) }
+{
+    find_exactly(alloc, contexts.as_slice())
+}

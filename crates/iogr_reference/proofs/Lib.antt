@@ -1,0 +1,4 @@
+pub mod Codecs
+pub mod GroupLemmas
+pub mod ViewLemmas
+pub mod ViewLaws

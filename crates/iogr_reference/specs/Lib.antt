@@ -1,0 +1,5 @@
+pub mod Formats
+pub mod Faults
+pub mod Groups
+pub mod Views
+pub mod Texts

@@ -1,0 +1,76 @@
+ghost use Rattle.std.specs.Prelude.{◌≡◌, OnErr, IfOk};
+ghost use Rattle.cdr_codec.specs.Formats.{read_each};
+ghost use Rattle.cdr_codec.specs.Calls.{Gives, Refuses};
+ghost use Rattle.cdr_codec.specs.Laws.{Took, IsNowhere};
+ghost use Rattle.iogr_reference.specs.Faults.{ior_fault};
+ghost use Rattle.iogr_reference.specs.Formats.{profile, profiles, ior, IsShort, AreShort};
+
+use crate::faults::IorFault;
+use crate::lists::Profiles;
+use crate::references::{Ior, Profile};
+use cdr_codec::CdrReader;
+use ft_base::Bytes;
+use std::alloc::Global;
+
+fn read_profile(alloc: Global, reader: &mut CdrReader) -> Result<Profile, IorFault>
+    ensures read { Gives (λ p. p) ior_fault result (profile.read reader.old) reader.new }
+    ensures short { IfOk result (λ p. IsShort p.content) }
+{
+    let tag = reader.read_u32()?;
+    let content = reader.read_octets()?;
+    let content = Bytes::of(alloc, content)?;
+    Ok(Profile { tag, content })
+}
+
+fn each_profile(alloc: Global, count: u32, reader: &mut CdrReader) -> Result<Vec<Profile>, IorFault>
+    ensures read { Gives (λ ps. ps.items) ior_fault result (read_each profile.read count reader.old) reader.new }
+    ensures short { IfOk result (λ ps. AreShort ps.items) }
+{
+    let mut profiles = Vec::new(alloc);
+    for _ in 0..count {
+        let profile = read_profile(alloc, reader)?;
+        profiles.push(profile)?;
+    }
+    Ok(profiles)
+}
+
+fn read_profiles(alloc: Global, reader: &mut CdrReader) -> Result<Profiles, IorFault>
+    ensures read { Gives (λ ps. ps) ior_fault result (profiles.read reader.old) reader.new }
+    ensures short { IfOk result AreShort }
+{
+    let count = reader.read_u32()?;
+    let profiles = each_profile(alloc, count, reader)?;
+    Ok(Profiles::from_vec(profiles))
+}
+
+pub fn ior_in(alloc: Global, reader: &mut CdrReader) -> Result<Ior, IorFault>
+    ensures read { Gives (λ i. i) ior_fault result (ior.read reader.old) reader.new }
+    ensures short { IfOk result (λ i. AreShort i.profiles) }
+{
+    let type_id = reader.read_string()?;
+    let type_id = Bytes::of(alloc, type_id)?;
+    let profiles = read_profiles(alloc, reader)?;
+    Ok(Ior { type_id, profiles })
+}
+
+fn read_exactly(alloc: Global, reader: &mut CdrReader) -> Result<Ior, IorFault>
+    ensures read { Gives (λ i. i) ior_fault result (ior.read reader.old) reader.new }
+    ensures short { IfOk result (λ i. AreShort i.profiles) }
+    ensures left { OnErr result (reader.new ≡ reader.old) }
+{
+    let mut ahead = reader.again();
+    let ior = ior_in(alloc, &mut ahead)?;
+    *reader = ahead;
+    Ok(ior)
+}
+
+/// Reads a reference. The reader stays where it was after a fault.
+pub fn read_ior(alloc: Global, reader: &mut CdrReader) -> Result<Ior, IorFault>
+    ensures found { IfOk result (λ i. Took ior.Spelled reader.old (i, reader.new)) }
+    ensures refused { Refuses ior_fault result (IsNowhere ior.Spelled reader.old) }
+    ensures left { OnErr result (reader.new ≡ reader.old) }
+    ensures read { Gives (λ i. i) ior_fault result (ior.read reader.old) reader.new }
+    ensures short { IfOk result (λ i. AreShort i.profiles) }
+{
+    read_exactly(alloc, reader)
+}

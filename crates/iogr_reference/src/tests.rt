@@ -1,0 +1,211 @@
+ghost use Rattle.std.specs.Prelude.{◌<◌, ◌^◌, length, IfOk};
+ghost use Rattle.iogr_reference.specs.Formats.{IsWritable};
+
+use crate::{
+    Ior, Ports, RefFault, TextFault, from_text, group_ref_of, read_ior, ref_of, to_text, write_ior,
+};
+use cdr_codec::{CdrReader, CdrWriter, Order};
+use ft_base::{Bytes, GroupId, HostNo, Members, Name, NoMemory, Version, View};
+use std::alloc::Global;
+
+// A group of three hosts, as omniORB 4.2.5 writes and reads it.
+const BANK: &str = concat!(
+    "IOR:000000000000001449444c3a6674632f4163636f756e743a312e300000000003",
+    "0000000000000056000102000000000a3132372e302e302e310007d0",
+    "0000000c46544f470000000000000001000000020000001b0000001c",
+    "0001000000000004667463000000000000000000000000010000000100",
+    "00001c0000000200010000",
+    "000000000000004c000102000000000a3132372e302e302e310007d1",
+    "0000000c46544f470000000000000001000000010000001b0000001c",
+    "00010000000000046674630000000000000000000000000100000001",
+    "000000000000004c000102000000000a3132372e302e302e310007d2",
+    "0000000c46544f470000000000000001000000010000001b0000001c",
+    "00010000000000046674630000000000000000000000000100000001",
+);
+
+// The first profile of it twice.
+const TWO_PRIMARIES: &str = concat!(
+    "IOR:000000000000001449444c3a6674632f4163636f756e743a312e300000000002",
+    "0000000000000056000102000000000a3132372e302e302e310007d0",
+    "0000000c46544f470000000000000001000000020000001b0000001c",
+    "0001000000000004667463000000000000000000000000010000000100",
+    "00001c0000000200010000",
+    "0000000000000056000102000000000a3132372e302e302e310007d0",
+    "0000000c46544f470000000000000001000000020000001b0000001c",
+    "0001000000000004667463000000000000000000000000010000000100",
+    "00001c000000020001",
+);
+
+// A profile of another tag before a member's.
+const ANOTHER_FIRST: &str = concat!(
+    "ior:000000000000001449444C3A6674632F4163636F756E743A312E300000000002",
+    "0000000100000004AABBCCDD",
+    "0000000000000056000102000000000A3132372E302E302E310007D0",
+    "0000000C46544F470000000000000001000000020000001B0000001C",
+    "0001000000000004667463000000000000000000000000010000000100",
+    "00001C000000020001",
+);
+
+const NO_PROFILES: &str = "IOR:000000000000001449444c3a6674632f4163636f756e743a312e300000000000";
+
+fn bank(alloc: Global) -> Result<Ior, NoMemory>
+    ensures { IfOk result IsWritable }
+{
+    let Ok(type_id) = Name::of(alloc, b"IDL:ftc/Account:1.0") else {
+        return Err(NoMemory);
+    };
+    let mut members = Members::new();
+    members.join(HostNo(0));
+    members.join(HostNo(1));
+    members.join(HostNo(2));
+    let view = View {
+        version: Version(1),
+        members,
+        primary: Some(HostNo(0)),
+    };
+    let ports = Vec::from_slice(alloc, &[2000_u16, 2001, 2002])?;
+    let ports = Ports::from_vec(ports);
+    ref_of(alloc, GroupId(1), &type_id, &view, &ports)
+}
+
+#[test]
+fn the_text_of_a_view(rt: HostRuntime) -> Result<(), NoMemory> {
+    let alloc = rt.alloc();
+    let reference = bank(alloc)?;
+    let text = to_text(alloc, &reference)?;
+    assert!(rt; text.bytes() == BANK.as_bytes());
+    Ok(())
+}
+
+#[test]
+fn a_group_of_its_text(rt: HostRuntime) -> Result<(), NoMemory> {
+    let alloc = rt.alloc();
+    let Ok(reference) = from_text(alloc, BANK.as_bytes()) else {
+        return Err(NoMemory);
+    };
+    let Ok(group) = group_ref_of(alloc, &reference) else {
+        return Err(NoMemory);
+    };
+    assert!(rt; group.domain.bytes() == b"ftc".as_slice());
+    assert_eq!(rt; group.group.0, 1);
+    assert_eq!(rt; group.version.0, 1);
+    assert!(rt; group.type_id.bytes() == b"IDL:ftc/Account:1.0".as_slice());
+    assert!(rt; group.primary == Some(0));
+    match group.profiles.as_slice() {
+        [first, second, third] => {
+            assert_eq!(rt; first.port, 2000);
+            assert_eq!(rt; second.port, 2001);
+            assert_eq!(rt; third.port, 2002);
+            assert!(rt; third.host.bytes() == b"127.0.0.1".as_slice());
+            assert!(rt; third.key.bytes() == b"FTOG\0\0\0\0\0\0\0\x01".as_slice());
+            assert_eq!(rt; third.minor, 2);
+        }
+        _ => assert!(rt; false, "other profiles"),
+    }
+    Ok(())
+}
+
+fn refusal(alloc: Global, text: &[u8]) -> Option<RefFault>
+    requires { length text.now < 2 ^ 32 }
+{
+    let Ok(reference) = from_text(alloc, text) else {
+        return None;
+    };
+    group_ref_of(alloc, &reference).err()
+}
+
+#[test]
+fn references_of_no_group(rt: HostRuntime) -> Result<(), NoMemory> {
+    let alloc = rt.alloc();
+    let none = refusal(alloc, NO_PROFILES.as_bytes());
+    assert!(rt; none == Some(RefFault::NotAGroup));
+    let two = refusal(alloc, TWO_PRIMARIES.as_bytes());
+    assert!(rt; two == Some(RefFault::TwoPrimaries));
+    let mut text = Vec::from_slice(alloc, BANK.as_bytes())?;
+    text.pop();
+    text.push(b'2')?;
+    assert!(rt; text.as_slice().len() < 1000);
+    let unequal = refusal(alloc, text.as_slice());
+    assert!(rt; unequal == Some(RefFault::Unequal(2)));
+    Ok(())
+}
+
+#[test]
+fn a_profile_of_another_tag_is_kept_and_passed_over(rt: HostRuntime) -> Result<(), NoMemory> {
+    let alloc = rt.alloc();
+    let Ok(reference) = from_text(alloc, ANOTHER_FIRST.as_bytes()) else {
+        return Err(NoMemory);
+    };
+    match reference.profiles.as_slice() {
+        [first, second] => {
+            assert_eq!(rt; first.tag, 1);
+            assert!(rt; first.content.bytes() == b"\xaa\xbb\xcc\xdd".as_slice());
+            assert_eq!(rt; second.tag, 0);
+        }
+        _ => assert!(rt; false, "other profiles"),
+    }
+    match group_ref_of(alloc, &reference) {
+        Ok(group) => {
+            assert_eq!(rt; group.profiles.as_slice().len(), 1);
+            assert!(rt; group.primary == Some(0));
+        }
+        Err(_) => assert!(rt; false, "no group"),
+    }
+    Ok(())
+}
+
+fn text_fault(alloc: Global, text: &[u8]) -> Option<TextFault>
+    requires { length text.now < 2 ^ 32 }
+{
+    from_text(alloc, text).err()
+}
+
+#[test]
+fn texts_that_are_no_reference(rt: HostRuntime) {
+    let alloc = rt.alloc();
+    let rows: [(&[u8], TextFault); 5] = [
+        (b"", TextFault::NoPrefix),
+        (b"IOR0", TextFault::NoPrefix),
+        (b"IOR:000", TextFault::Digits(3)),
+        (b"IOR:0g0", TextFault::Digits(1)),
+        (b"IOR:00g0", TextFault::Digits(2)),
+    ];
+    for (text, want) in &rows {
+        assert!(rt; text.len() < 1000);
+        assert!(rt; text_fault(alloc, text) == Some(*want));
+    }
+}
+
+// The reference in little endian order, with the profiles' contents as they are.
+#[test]
+fn a_little_endian_reference(rt: HostRuntime) -> Result<(), NoMemory> {
+    let alloc = rt.alloc();
+    let reference = bank(alloc)?;
+    let mut writer = CdrWriter::new(alloc, Order::Little, 0);
+    write_ior(&reference, &mut writer)?;
+    assert!(rt; writer.bytes().len() < 1000);
+    assert!(rt; writer.bytes().first() == Some(&20));
+    let mut reader = CdrReader::new(Order::Little, 0, writer.bytes());
+    let Ok(again) = read_ior(alloc, &mut reader) else {
+        return Err(NoMemory);
+    };
+    assert!(rt; reader.rest().is_empty());
+    match group_ref_of(alloc, &again) {
+        Ok(group) => {
+            assert_eq!(rt; group.group.0, 1);
+            assert_eq!(rt; group.profiles.as_slice().len(), 3);
+        }
+        Err(_) => assert!(rt; false, "no group"),
+    }
+    Ok(())
+}
+
+#[test]
+fn a_refused_read_leaves_the_reader(rt: HostRuntime) {
+    let alloc = rt.alloc();
+    let input = b"\0\0\0\x02x\0\0\0\0\0\0\x01\0\0\0\0";
+    let mut reader = CdrReader::new(Order::Big, 0, input);
+    assert!(rt; read_ior(alloc, &mut reader).is_err());
+    assert_eq!(rt; reader.place(), 0);
+    assert_eq!(rt; reader.rest().len(), 16);
+}

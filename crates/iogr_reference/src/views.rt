@@ -1,0 +1,256 @@
+//! The reference of a view.
+ghost use Rattle.std.specs.Prelude.{◌≡◌, ◌<◌, ◌≤◌, ◌^◌, length, [], ◌∷◌, map, IfOk, OnOk, true, None};
+ghost use Rattle.std.specs.List.{All};
+ghost use Rattle.ft_base.specs.Text.{zero_place};
+ghost use Rattle.cdr_codec.specs.declared.orders.Order.TheVariants as orders;
+ghost use Rattle.cdr_codec.specs.Calls.{appended, appended_each};
+ghost use Rattle.iogr_reference.specs.Formats.{component, components_at, iiop, group_tag, IsShort, AreShort, AreShortComponents, IsWritable};
+ghost use Rattle.iogr_reference.specs.Views.{encapsulated, iiop_with, member_iiop, profile_of_host, group_component as the_group_component, primary_component as the_primary_component, components_of, object_key, member_profile as the_profile, is_primary_host, reference_of};
+
+use crate::insides::{GROUP_TAG, IIOP_TAG, PRIMARY_TAG};
+use crate::lists::{Ports, Profiles};
+use crate::references::{Component, GroupTag, Ior, Profile};
+use cdr_codec::{CdrWriter, Order};
+use ft_base::{Bytes, GroupId, HostNo, Name, NoMemory, Version, View};
+use std::alloc::Global;
+
+/// A writer behind the octet of the byte order.
+pub fn begin(alloc: Global) -> Result<CdrWriter, NoMemory>
+    ensures { IfOk result (λ w. w ≡ record { order = orders.Big; place = 0; text = 0 ∷ [] }) }
+{
+    let mut writer = CdrWriter::new(alloc, Order::Big, 0);
+    writer.write_octet(0)?;
+    Ok(writer)
+}
+
+#[tactic(auto, using(crate::proofs::ViewLemmas::group_tag_written))]
+fn write_group_tag(tag: &GroupTag, writer: &mut CdrWriter) -> Result<(), NoMemory>
+    requires no_zero { zero_place tag.now.domain ≡ None }
+    requires short { length tag.now.domain < 2 ^ 31 }
+    ensures { OnOk result (writer.new ≡ appended group_tag.written tag.now writer.old) }
+{
+    writer.write_octet(1)?;
+    writer.write_octet(0)?;
+    writer.write_string(tag.domain.bytes())?;
+    writer.write_u64(tag.group.0)?;
+    writer.write_u32(tag.version.0)?;
+    Ok(())
+}
+
+fn tag_bytes(alloc: Global, tag: &GroupTag) -> Result<Bytes, NoMemory>
+    requires no_zero { zero_place tag.now.domain ≡ None }
+    requires short { length tag.now.domain < 2 ^ 31 }
+    ensures { IfOk result (λ bytes. bytes ≡ 0 ∷ group_tag.written orders.Big 1 tag.now) }
+{
+    let mut writer = begin(alloc)?;
+    write_group_tag(tag, &mut writer)?;
+    Ok(writer.finish())
+}
+
+fn group_component(alloc: Global, group: GroupId, version: Version) -> Result<Component, NoMemory>
+    ensures component { IfOk result (λ c. c ≡ the_group_component group version) }
+    ensures short { IfOk result (λ c. IsShort c.content) }
+{
+    let domain = Bytes::of(alloc, b"ftc")?;
+    let tag = GroupTag {
+        domain,
+        group,
+        version,
+    };
+    let content = tag_bytes(alloc, &tag)?;
+    Ok(Component {
+        tag: GROUP_TAG,
+        content,
+    })
+}
+
+fn primary_component(alloc: Global) -> Result<Component, NoMemory>
+    ensures component { IfOk result (λ c. c ≡ the_primary_component) }
+    ensures short { IfOk result (λ c. IsShort c.content) }
+{
+    let mut writer = begin(alloc)?;
+    writer.write_bool(true)?;
+    Ok(Component {
+        tag: PRIMARY_TAG,
+        content: writer.finish(),
+    })
+}
+
+fn components_for(
+    alloc: Global,
+    group: GroupId,
+    version: Version,
+    is_primary: bool,
+) -> Result<Vec<Component>, NoMemory>
+    ensures components { IfOk result (λ cs. cs.items ≡ components_of group version is_primary) }
+    ensures count { IfOk result (λ cs. length cs.items ≤ 2) }
+    ensures short { IfOk result (λ cs. AreShortComponents cs.items) }
+{
+    let mut components = Vec::new(alloc);
+    let first = group_component(alloc, group, version)?;
+    components.push(first)?;
+    if !is_primary {
+        return Ok(components);
+    }
+    let second = primary_component(alloc)?;
+    components.push(second)?;
+    Ok(components)
+}
+
+fn key_of(alloc: Global, group: GroupId) -> Result<Vec<u8>, NoMemory>
+    ensures key { IfOk result (λ key. key.items ≡ object_key group) }
+    ensures short { IfOk result (λ key. length key.items ≡ 12) }
+{
+    let mut key = Vec::from_slice(alloc, b"FTOG")?;
+    key.extend_from_slice(&group.0.to_be_bytes())?;
+    Ok(key)
+}
+
+fn write_component(one: &Component, writer: &mut CdrWriter) -> Result<(), NoMemory>
+    requires { IsShort one.now.content }
+    ensures { OnOk result (writer.new ≡ appended component.written one.now writer.old) }
+{
+    writer.write_u32(one.tag)?;
+    writer.write_octets(one.content.bytes())
+}
+
+fn each_component(components: &[Component], writer: &mut CdrWriter) -> Result<(), NoMemory>
+    requires { AreShortComponents components.now }
+    ensures { OnOk result (writer.new ≡ appended_each component.written components.now writer.old) }
+{
+    for one in components {
+        write_component(one, writer)?;
+    }
+    Ok(())
+}
+
+fn write_components(components: &[Component], writer: &mut CdrWriter) -> Result<(), NoMemory>
+    requires count { length components.now < 2 ^ 32 }
+    requires short { AreShortComponents components.now }
+    ensures { OnOk result (writer.new ≡ appended (components_at 2).written components.now writer.old) }
+{
+    writer.write_u32(components.len() as u32)?;
+    each_component(components, writer)
+}
+
+#[tactic(auto, using(crate::proofs::ViewLemmas::iiop_written))]
+fn write_member(
+    port: u16,
+    key: &[u8],
+    components: &[Component],
+    writer: &mut CdrWriter,
+) -> Result<(), NoMemory>
+    requires key { length key.now < 2 ^ 32 }
+    requires count { length components.now < 2 ^ 32 }
+    requires short { AreShortComponents components.now }
+    ensures { OnOk result (writer.new ≡ appended iiop.written (iiop_with port key.now components.now) writer.old) }
+{
+    writer.write_octet(1)?;
+    writer.write_octet(2)?;
+    writer.write_string(b"127.0.0.1")?;
+    writer.write_u16(port)?;
+    writer.write_octets(key)?;
+    write_components(components, writer)?;
+    Ok(())
+}
+
+fn member_bytes(
+    alloc: Global,
+    group: GroupId,
+    version: Version,
+    port: u16,
+    is_primary: bool,
+) -> Result<Bytes, NoMemory>
+    ensures bytes { IfOk result (λ bytes. bytes ≡ encapsulated iiop (member_iiop group version port is_primary)) }
+    ensures short { IfOk result IsShort }
+{
+    let components = components_for(alloc, group, version, is_primary)?;
+    let key = key_of(alloc, group)?;
+    let mut writer = begin(alloc)?;
+    write_member(port, key.as_slice(), components.as_slice(), &mut writer)?;
+    Ok(writer.finish())
+}
+
+fn member_profile(
+    alloc: Global,
+    group: GroupId,
+    version: Version,
+    port: u16,
+    is_primary: bool,
+) -> Result<Profile, NoMemory>
+    ensures profile { IfOk result (λ p. p ≡ the_profile group version port is_primary) }
+    ensures short { IfOk result (λ p. IsShort p.content) }
+{
+    let content = member_bytes(alloc, group, version, port, is_primary)?;
+    Ok(Profile {
+        tag: IIOP_TAG,
+        content,
+    })
+}
+
+fn is_primary(primary: Option<HostNo>, host: u8) -> bool
+    ensures { result ≡ is_primary_host primary host }
+{
+    match primary {
+        None => false,
+        Some(primary) => primary.0 == host,
+    }
+}
+
+fn profile_of(
+    alloc: Global,
+    group: GroupId,
+    view: &View,
+    ports: &Ports,
+    host: u8,
+) -> Result<Profile, NoMemory>
+    requires { host < length ports.now }
+    ensures profile { IfOk result (λ p. p ≡ profile_of_host group view.now ports.now host) }
+    ensures short { IfOk result (λ p. IsShort p.content) }
+{
+    let port = ports.as_slice()[host as usize];
+    member_profile(
+        alloc,
+        group,
+        view.version,
+        port,
+        is_primary(view.primary, host),
+    )
+}
+
+fn profiles_of(
+    alloc: Global,
+    group: GroupId,
+    view: &View,
+    ports: &Ports,
+) -> Result<Profiles, NoMemory>
+    requires { All (λ host. host < length ports.now) view.now.members }
+    ensures profiles { IfOk result (λ ps. ps ≡ map (profile_of_host group view.now ports.now) view.now.members) }
+    ensures count { IfOk result (λ ps. length ps ≤ 16) }
+    ensures short { IfOk result AreShort }
+{
+    let mut profiles = Vec::with_capacity(alloc, view.members.len())?;
+    for host in view.members.hosts() {
+        let profile = profile_of(alloc, group, view, ports, *host)?;
+        profiles.push(profile)?;
+    }
+    Ok(Profiles::from_vec(profiles))
+}
+
+/// The reference of a group's view. `ports` has the port of each member's host.
+pub fn ref_of(
+    alloc: Global,
+    group: GroupId,
+    type_id: &Name,
+    view: &View,
+    ports: &Ports,
+) -> Result<Ior, NoMemory>
+    requires { All (λ host. host < length ports.now) view.now.members }
+    ensures reference { IfOk result (λ i. i ≡ reference_of group type_id.now view.now ports.now) }
+    ensures writable { IfOk result IsWritable }
+    ensures short { IfOk result (λ i. AreShort i.profiles) }
+{
+    let type_id = Bytes::of(alloc, type_id.bytes())?;
+    let profiles = profiles_of(alloc, group, view, ports)?;
+    Ok(Ior { type_id, profiles })
+}
