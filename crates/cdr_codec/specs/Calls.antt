@@ -1,5 +1,5 @@
 -- What the calls of readers and writers answer and leave.
-use Rattle.std.specs.Prelude.{◌≡◌, ℕ, ◌+◌, List, [], ◌∷◌, ◌++◌, length, Option, Some, None, Result, Ok, Err}
+use Rattle.std.specs.Prelude.{◌≡◌, ℕ, ◌+◌, List, [], ◌∷◌, ◌++◌, length, take, Option, Some, None, Result, Ok, Err}
 use Rattle.cdr_codec.specs.declared.orders.Order.{Order}
 use Rattle.cdr_codec.specs.declared.faults.CdrWhy.{CdrWhy}
 use Rattle.cdr_codec.specs.declared.faults.CdrFault.{CdrFault}
@@ -49,3 +49,7 @@ appended written x w = record w { text = w.text ++ written w.order (w.place + le
 abbrev pub appended_each : {X : Type 0} → Writing X → List X → Writer → Writer
 appended_each written [] w = w
 appended_each written (x ∷ xs) w = appended_each written xs (appended written x w)
+
+-- what stood in the text before still stands at its front
+abbrev pub Keeps : Writer → Writer → Type 0
+Keeps before after = record after { text = take (length before.text) after.text } ≡ before

@@ -58,6 +58,11 @@ octets = record {
   read = λ r. (number 4).read r >>= λ n. taken 0 n.0 (start 4 r.place) n.1;
 }
 
+-- ---- bytes with no count, at a multiple of a number
+
+abbrev pub written_piece : ℕ → Writing (List ℕ)
+written_piece align order place piece = replicate (padding place align) 0 ++ piece
+
 -- ---- nothing at all, which stands for one value
 
 abbrev pub nothing : {W X : Type 0} → X → Format W X

@@ -2,7 +2,7 @@ ghost use Rattle.std.specs.Prelude.{◌≡◌, ◌+◌, ◌<◌, ◌^◌, ◌++�
 ghost use Rattle.ft_base.specs.Canonical.{IsCanonical, one_of};
 ghost use Rattle.ft_base.specs.declared.requests.Par.TheVariants as pars;
 ghost use Rattle.cdr_codec.specs.Reading.{reader_at};
-ghost use Rattle.cdr_codec.specs.Arguments.{param, params, pars_of, IsFormOf, StopsAt, IsNoBody};
+ghost use Rattle.cdr_codec.specs.Arguments.{body_reader, param, params, pars_of, IsFormOf, StopsAt, IsNoBody};
 ghost use Rattle.cdr_codec.specs.Copies.{Copies, FormsOf, IsArgs, OnBad};
 
 use crate::bodies::{ArgsFault, Raw};
@@ -160,6 +160,7 @@ pub fn args_of(alloc: Global, body: &Raw, signature: &Signature) -> Result<Bytes
     ensures canonical { IfOk result (λ args. IsCanonical (pars_of signature.now) args) }
     ensures refused { OnBad result (λ place. IsNoBody body.now (pars_of signature.now)) }
     ensures place { OnBad result (StopsAt body.now (pars_of signature.now)) }
+    ensures exact { IsArgs (body_reader body.now) (pars_of signature.now) result }
 {
     args_in(alloc, body.order, body.align, body.bytes.bytes(), signature)
 }

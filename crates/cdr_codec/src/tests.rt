@@ -211,6 +211,32 @@ fn an_encapsulation_is_written(rt: HostRuntime) -> Result<(), Fail> {
     Ok(())
 }
 
+// Twelve bytes of a header, and a body at a multiple of 8.
+#[test]
+fn a_piece_has_no_count(rt: HostRuntime) {
+    let mut writer = CdrWriter::new(rt.alloc(), Order::Big, 6);
+    assert_eq!(rt; writer.write_u32(7), Ok(()));
+    assert_eq!(rt; writer.write_piece(8, b"body"), Ok(()));
+    assert_eq!(rt; writer.write_piece(1, b"!"), Ok(()));
+    assert_eq!(rt; writer.write_piece(8, b""), Ok(()));
+    assert_eq!(rt;
+        writer.bytes(),
+        b"\0\0\0\0\0\x07\0\0\0\0body!\0\0\0".as_slice()
+    );
+}
+
+#[test]
+fn a_text_is_taken_back(rt: HostRuntime) {
+    let mut writer = CdrWriter::new(rt.alloc(), Order::Little, 0);
+    assert_eq!(rt; writer.write_octet(1), Ok(()));
+    assert_eq!(rt; writer.write_u16(2), Ok(()));
+    writer.truncate(9);
+    assert_eq!(rt; writer.bytes(), b"\x01\0\x02\0".as_slice());
+    writer.truncate(1);
+    assert_eq!(rt; writer.write_octets(b"x"), Ok(()));
+    assert_eq!(rt; writer.bytes(), b"\x01\0\0\0\x01\0\0\0x".as_slice());
+}
+
 // The body of a system exception: its repository id, its minor code and its completion status.
 #[test]
 fn a_system_exception_is_read(rt: HostRuntime) {

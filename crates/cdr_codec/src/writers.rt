@@ -1,8 +1,8 @@
-ghost use Rattle.std.specs.Prelude.{◌≡◌, ◌≤◌, ◌<◌, ◌+◌, ◌^◌, ℕ, List, [], ◌∷◌, ◌++◌, length, replicate, slice_get, None, OnOk, OnErr};
+ghost use Rattle.std.specs.Prelude.{◌≡◌, ◌≤◌, ◌<◌, ◌+◌, ◌^◌, ℕ, List, [], ◌∷◌, ◌++◌, length, replicate, take, slice_get, None, OnOk, OnErr};
 ghost use Rattle.std.specs.Int.{w16, w32, w64};
 ghost use Rattle.ft_base.specs.Canonical.{padding};
 ghost use Rattle.ft_base.specs.Text.{zero_place};
-ghost use Rattle.cdr_codec.specs.Formats.{number, octets};
+ghost use Rattle.cdr_codec.specs.Formats.{number, octets, written_piece};
 ghost use Rattle.cdr_codec.specs.Values.{boolean, text, signed};
 ghost use Rattle.cdr_codec.specs.Calls.{appended};
 ghost use Rattle.cdr_codec.specs.Encapsulations.{IsEncapsulated};
@@ -98,6 +98,13 @@ impl CdrWriter {
             text,
         } = self;
         Bytes::from_vec(text)
+    }
+
+    /// Takes the text back to its first `length` bytes; a shorter text stays. It takes no memory.
+    pub fn truncate(&mut self, length: usize)
+        ensures { self.new ≡ record self.old { text = take length self.old.text } }
+    {
+        self.text.truncate(length);
     }
 
     fn put(
@@ -217,6 +224,18 @@ impl CdrWriter {
     {
         let digits = digits_of_4(self.order(), string.len() as u32 + 1);
         self.put(4, &digits, string, &[0])
+    }
+
+    /// Bytes without a count, at a multiple of `align`: the body of a message, or what another writer
+    /// wrote of it.
+    pub fn write_piece(&mut self, align: usize, piece: &[u8]) -> Result<(), NoMemory>
+        requires some { 0 < align }
+        requires small { align ≤ 8 }
+        requires short { length piece.now < 2 ^ 32 }
+        ensures written { OnOk result (self.new ≡ appended (written_piece align) piece.now self.old) }
+        ensures left { OnErr result (self.new ≡ self.old) }
+    {
+        self.put(align, &[], piece, &[])
     }
 
     /// An encapsulation: what another writer wrote, which began at place 0 with the octet of its own

@@ -8,7 +8,8 @@ use Rattle.std.proofs.lemmas.Bool.Decides.{nat_tests}
 use Rattle.std.proofs.lemmas.Slice.Eq.{bytes_eq-Decides}
 use Rattle.fault_script.specs.Words.{is_comment, is_script_name, is_operation, only}
 use Rattle.fault_script.specs.Numbers.{is_number, number, capped, from_one, positive_number}
-use Rattle.fault_script.specs.Forms.{is_unbuilt, verb, hosts_of, hosts_line, is_kind, is_style, is_group_form, member_of, built_group, group_line, client_line, call_line, is_stop, deliver_of, deliver_line, tick_of, tick_line, show_line, line_of_verb, line_of, as_some, parse_words}
+use Rattle.fault_script.specs.Arguments.{octets_of}
+use Rattle.fault_script.specs.Forms.{is_unbuilt, verb, hosts_of, hosts_line, is_kind, is_style, is_group_form, member_of, built_group, group_line, client_line, call_line, is_stop, deliver_of, deliver_line, tick_of, tick_line, show_line, inject_at, inject_line, line_of_verb, line_of, as_some, parse_words}
 use Rattle.fault_script.specs.Grammar.{Spells, IsNumber}
 use Rattle.fault_script.specs.declared.lines.Line.{Line}
 use Rattle.fault_script.specs.declared.lines.Line.TheVariants as lines
@@ -154,6 +155,26 @@ tick_spelled [] line e = cc
 tick_spelled (word ∷ []) line e = tick_found word (number word) line refl e
 tick_spelled (word ∷ next ∷ rest) line e = cc
 
+-- inject
+inject_found : (digits octets : List ℕ) (host : Option ℕ) (bytes : Option (List ℕ)) (line : Line) → number digits ≡ host → octets_of octets ≡ bytes
+    → inject_at host bytes ≡ Ok line → Spells (codes "inject" ∷ digits ∷ octets ∷ []) line
+inject_found digits octets None bytes line a b e = cc
+inject_found digits octets (Some host) None line a b e = cc
+inject_found digits octets (Some host) (Some bytes) line a b e =
+    let same : lines.Inject (capped host) bytes ≡ line = cc in
+    subst (λ (l : Line). Spells (codes "inject" ∷ digits ∷ octets ∷ []) l) same (digits, octets, refl, (host, a, refl), b)
+
+no_inject : (host : Option ℕ) (P : Type 0) (line : Line) → inject_at host None ≡ Ok line → P
+no_inject None P line e = cc
+no_inject (Some host) P line e = cc
+
+inject_spelled : (rest : List (List ℕ)) (line : Line) → inject_line rest ≡ Ok line → Spells (codes "inject" ∷ rest) line
+inject_spelled [] line e = cc
+inject_spelled (digits ∷ []) line e = no_inject (number digits) (Spells (codes "inject" ∷ digits ∷ []) line) line e
+inject_spelled (digits ∷ octets ∷ []) line e = inject_found digits octets (number digits) (octets_of octets) line refl refl e
+inject_spelled (digits ∷ octets ∷ next ∷ rest) line e =
+    no_inject (number digits) (Spells (codes "inject" ∷ digits ∷ octets ∷ next ∷ rest) line) line e
+
 -- the first word
 spelling : Verb → List ℕ
 spelling verbs.Hosts = codes "hosts"
@@ -163,6 +184,7 @@ spelling verbs.Call = codes "call"
 spelling verbs.Deliver = codes "deliver"
 spelling verbs.Tick = codes "tick"
 spelling verbs.Show = codes "show"
+spelling verbs.Inject = codes "inject"
 
 verb_case : (b : Bool) (first text : List ℕ) (here found : Verb) (others : Option Verb) → bytes_eq first text ≡ b → spelling here ≡ text
     → (others ≡ Some found → first ≡ spelling found) → cond b (Some here) others ≡ Some found → first ≡ spelling found
@@ -180,7 +202,8 @@ verb_spelled first found =
     (verb_case (bytes_eq first (codes "call")) first (codes "call") verbs.Call found _ refl refl
     (verb_case (bytes_eq first (codes "deliver")) first (codes "deliver") verbs.Deliver found _ refl refl
     (verb_case (bytes_eq first (codes "tick")) first (codes "tick") verbs.Tick found _ refl refl
-    (verb_case (bytes_eq first (codes "show")) first (codes "show") verbs.Show found None refl refl (λ e. cc)))))))
+    (verb_case (bytes_eq first (codes "show")) first (codes "show") verbs.Show found _ refl refl
+    (verb_case (bytes_eq first (codes "inject")) first (codes "inject") verbs.Inject found None refl refl (λ e. cc))))))))
 
 verb_line_spelled : (found : Option Verb) (first : List ℕ) (rest : List (List ℕ)) (line : Line) → verb first ≡ found → line_of_verb found rest ≡ Ok line → Spells (first ∷ rest) line
 unfolding spelling
@@ -199,6 +222,8 @@ verb_line_spelled (Some verbs.Tick) first rest line v e =
     subst (λ (w : List ℕ). Spells (w ∷ rest) line) (sym (verb_spelled first verbs.Tick v)) (tick_spelled rest line e)
 verb_line_spelled (Some verbs.Show) first rest line v e =
     subst (λ (w : List ℕ). Spells (w ∷ rest) line) (sym (verb_spelled first verbs.Show v)) (show_spelled rest line e)
+verb_line_spelled (Some verbs.Inject) first rest line v e =
+    subst (λ (w : List ℕ). Spells (w ∷ rest) line) (sym (verb_spelled first verbs.Inject v)) (inject_spelled rest line e)
 
 as_some_line : (read : Result Line LineFault) (line : Line) → as_some read ≡ Ok (Some line) → read ≡ Ok line
 as_some_line (Ok other) line e = cc

@@ -5,7 +5,8 @@ use Rattle.std.specs.Str.Parse.{digits_value}
 use Rattle.std.proofs.lemmas.Bool.Decides.{nat_tests}
 use Rattle.fault_script.specs.Words.{words, is_script_name, is_operation}
 use Rattle.fault_script.specs.Numbers.{is_number, number, capped, from_one, positive_number}
-use Rattle.fault_script.specs.Forms.{hosts_of, is_group_form, member_of, group_line, call_line, deliver_of, tick_of, tick_line, as_some, parse_words, parse}
+use Rattle.fault_script.specs.Arguments.{octets_of}
+use Rattle.fault_script.specs.Forms.{hosts_of, is_group_form, member_of, group_line, call_line, deliver_of, tick_of, tick_line, inject_bytes, inject_at, inject_line, as_some, parse_words, parse}
 use Rattle.fault_script.specs.Grammar.{Spells, IsNumber}
 use Rattle.fault_script.specs.declared.lines.Line.{Line}
 use Rattle.fault_script.specs.declared.lines.Line.TheVariants as lines
@@ -41,6 +42,12 @@ tick_read digits count is_count small =
     let test : nat_lt count (2 ^ 32) ≡ true = grind (arith, nat_tests) in
     ap tick_of is_count ∙ rw test refl
 
+inject_read : (digits octets bytes : List ℕ) (host : ℕ) → IsNumber digits host → octets_of octets ≡ Some bytes
+    → inject_line (digits ∷ octets ∷ []) ≡ Ok (lines.Inject host bytes)
+inject_read digits octets bytes host is_host read =
+    ap (λ (n : Option ℕ). inject_at n (octets_of octets)) is_host.1
+    ∙ ap (inject_bytes is_host.0) read ∙ ap (λ (h : ℕ). Ok (lines.Inject h bytes)) (sym is_host.2)
+
 -- what is of a form is read
 pub spelled_is_read : (ws : List (List ℕ)) (line : Line) → Spells ws line → parse_words ws ≡ Ok (Some line)
 spelled_is_read ws (lines.Hosts count) s =
@@ -61,6 +68,9 @@ spelled_is_read ws (lines.Tick count) s =
     subst (λ (w : List (List ℕ)). parse_words w ≡ Ok (Some (lines.Tick count))) (sym s.1) (ap as_some (tick_read s.0 count s.2 s.3))
 spelled_is_read ws (lines.Show name) s =
     subst (λ (w : List (List ℕ)). parse_words w ≡ Ok (Some (lines.Show name))) (sym s.0) (rw s.1 refl)
+spelled_is_read ws (lines.Inject host bytes) s =
+    subst (λ (w : List (List ℕ)). parse_words w ≡ Ok (Some (lines.Inject host bytes))) (sym s.2)
+    (ap as_some (inject_read s.0 s.1 bytes host s.3 s.4))
 
 -- a line that is too long is refused, whatever stands in it
 pub parse-long : (text : List ℕ) → 4096 < length text → parse text ≡ Err (Limit limits.Line)

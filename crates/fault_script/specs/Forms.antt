@@ -5,6 +5,7 @@ use Rattle.std.specs.List.{list_all, list_any}
 use Rattle.std.specs.Str.{bytes_eq}
 use Rattle.fault_script.specs.Words.{words, is_comment, is_script_name, is_operation, only}
 use Rattle.fault_script.specs.Numbers.{is_number, number, capped, positive_number}
+use Rattle.fault_script.specs.Arguments.{octets_of}
 use Rattle.fault_script.specs.declared.lines.Line.{Line}
 use Rattle.fault_script.specs.declared.lines.Line.TheVariants as lines
 use Rattle.fault_script.specs.declared.lines.LimitName.TheVariants as limits
@@ -16,7 +17,7 @@ use Rattle.fault_script.specs.declared.verbs.Verb.TheVariants as verbs
 -- the first words of lines that are not built yet
 abbrev pub unbuilt : List (List ℕ)
 unbuilt =
-    codes "inject" ∷ codes "create" ∷ codes "set" ∷ codes "unset" ∷ codes "get" ∷ codes "add" ∷ codes "grow"
+    codes "create" ∷ codes "set" ∷ codes "unset" ∷ codes "get" ∷ codes "add" ∷ codes "grow"
     ∷ codes "remove" ∷ codes "primary" ∷ codes "locations" ∷ codes "id" ∷ codes "ref" ∷ codes "member"
     ∷ codes "delete" ∷ codes "bind" ∷ codes "timeout" ∷ codes "crash" ∷ codes "restart" ∷ codes "report"
     ∷ codes "poll" ∷ codes "sweep" ∷ codes "subscribe" ∷ codes "unsubscribe" ∷ codes "pull"
@@ -35,7 +36,8 @@ verb first =
     else (if bytes_eq first (codes "deliver") then Some verbs.Deliver
     else (if bytes_eq first (codes "tick") then Some verbs.Tick
     else (if bytes_eq first (codes "show") then Some verbs.Show
-    else None))))))
+    else (if bytes_eq first (codes "inject") then Some verbs.Inject
+    else None)))))))
 
 -- `hosts N`
 abbrev pub hosts_of : Option ℕ → Result Line LineFault
@@ -120,6 +122,19 @@ show_of (Some name) = if is_script_name name then Ok (lines.Show name) else Err 
 abbrev pub show_line : List (List ℕ) → Result Line LineFault
 show_line rest = show_of (only rest)
 
+-- `inject H HEX`
+abbrev pub inject_bytes : ℕ → Option (List ℕ) → Result Line LineFault
+inject_bytes host None = Err Syntax
+inject_bytes host (Some bytes) = Ok (lines.Inject (capped host) bytes)
+
+abbrev pub inject_at : Option ℕ → Option (List ℕ) → Result Line LineFault
+inject_at None bytes = Err Syntax
+inject_at (Some host) bytes = inject_bytes host bytes
+
+abbrev pub inject_line : List (List ℕ) → Result Line LineFault
+inject_line [] = Err Syntax
+inject_line (host ∷ rest) = inject_at (number host) (option_and_then octets_of (only rest))
+
 -- the table of script lines
 abbrev pub line_of_verb : Option Verb → List (List ℕ) → Result Line LineFault
 line_of_verb None rest = Err Syntax
@@ -130,6 +145,7 @@ line_of_verb (Some verbs.Call) rest = call_line rest
 line_of_verb (Some verbs.Deliver) rest = deliver_line rest
 line_of_verb (Some verbs.Tick) rest = tick_line rest
 line_of_verb (Some verbs.Show) rest = show_line rest
+line_of_verb (Some verbs.Inject) rest = inject_line rest
 
 abbrev pub line_of : List ℕ → List (List ℕ) → Result Line LineFault
 line_of first rest = if is_unbuilt first then Err Later else line_of_verb (verb first) rest

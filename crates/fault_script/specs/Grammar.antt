@@ -2,8 +2,9 @@
 use Rattle.std.specs.Prelude.{◌≡◌, ℕ, ◌<◌, ◌≤◌, ◌^◌, true, List, [], ◌∷◌, codes, Some}
 use Rattle.fault_script.specs.Words.{is_script_name, is_operation}
 use Rattle.fault_script.specs.Numbers.{number, capped}
+use Rattle.fault_script.specs.Arguments.{octets_of}
 use Rattle.fault_script.specs.declared.lines.Line.{Line}
-use Rattle.fault_script.specs.declared.lines.Line.TheVariants.{Hosts, Group, Client, Call, Deliver, Tick, Show}
+use Rattle.fault_script.specs.declared.lines.Line.TheVariants.{Hosts, Group, Client, Call, Deliver, Tick, Show, Inject}
 
 -- a word is a number, which no more than 64 bits keep
 abbrev pub IsNumber : List ℕ → ℕ → Type 0
@@ -24,3 +25,6 @@ Spells words (Deliver message) =
 Spells words (Tick count) =
     (digits : List ℕ) × (words ≡ codes "tick" ∷ digits ∷ []) × (number digits ≡ Some count) × (count < 2 ^ 32)
 Spells words (Show name) = (words ≡ codes "show" ∷ name ∷ []) × (is_script_name name ≡ true)
+Spells words (Inject host bytes) =
+    (digits : List ℕ) × (octets : List ℕ) × (words ≡ codes "inject" ∷ digits ∷ octets ∷ [])
+    × IsNumber digits host × (octets_of octets ≡ Some bytes)

@@ -71,7 +71,8 @@ fn push_u32_word(out: &mut Vec<u8>, word: &[u8]) -> Result<(), LineFault>
     }
 }
 
-fn read_octets(alloc: Global, word: &[u8]) -> Result<Vec<u8>, LineFault>
+/// Octets: `-` for none, else hexadecimal.
+pub(crate) fn read_octets(alloc: Global, word: &[u8]) -> Result<Vec<u8>, LineFault>
     ensures found { Finds (λ octets. octets.items) result (octets_of word.now) }
     ensures counted { IfOk result (λ octets. length octets.items < 2 ^ 32) }
 {

@@ -3,13 +3,14 @@ ghost use Rattle.std.specs.List.{list_all};
 ghost use Rattle.fault_script.specs.Words.{texts, only, is_script_name, is_operation};
 ghost use Rattle.fault_script.specs.Numbers.{is_number, number, capped};
 ghost use Rattle.fault_script.specs.Faults.{Answers};
-ghost use Rattle.fault_script.specs.Forms.{is_kind, is_style, is_stop, hosts_line, is_group_form, built_group, group_line, client_line, call_line, deliver_line, tick_line, show_line};
+ghost use Rattle.fault_script.specs.Forms.{is_kind, is_style, is_stop, hosts_line, is_group_form, built_group, group_line, client_line, call_line, deliver_line, tick_line, show_line, inject_line};
 
+use crate::arguments::read_octets;
 use crate::lines::{Line, LineFault, Words};
 use crate::names::{is_operation, read_name, read_operation};
 use crate::numerals::{cap, is_number, read_number, read_positive};
 use crate::splitting::{is_script_name, only, split_first};
-use ft_base::NoMemory;
+use ft_base::{Bytes, NoMemory};
 use std::alloc::Global;
 
 /// `hosts N`, from the words behind the first.
@@ -211,5 +212,27 @@ pub(crate) fn read_deliver(words: &[&[u8]]) -> Result<Line, LineFault>
         Err(LineFault::Later)
     } else {
         Err(LineFault::Syntax)
+    }
+}
+
+/// `inject H HEX`, from the words behind the first.
+pub(crate) fn read_inject(alloc: Global, words: &[&[u8]]) -> Result<Line, LineFault>
+    ensures { Answers result (inject_line (texts words.now)) }
+{
+    let Some((host, rest)) = split_first(words) else {
+        return Err(LineFault::Syntax);
+    };
+    let Some(host) = read_number(host) else {
+        return Err(LineFault::Syntax);
+    };
+    let Some(octets) = only(rest) else {
+        return Err(LineFault::Syntax);
+    };
+    match read_octets(alloc, octets) {
+        Ok(bytes) => Ok(Line::Inject {
+            host: cap(host),
+            bytes: Bytes::from_vec(bytes),
+        }),
+        Err(fault) => Err(fault),
     }
 }

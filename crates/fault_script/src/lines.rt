@@ -42,6 +42,11 @@ pub enum Line {
     Tick(u32),
     /// `show G`: prints the group.
     Show(Name),
+    /// `inject H HEX`: the bytes of a whole link, as a client has sent them to a host.
+    Inject {
+        host: u64,
+        bytes: Bytes,
+    },
 }
 
 /// What there are only so many of.

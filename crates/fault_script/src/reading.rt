@@ -6,7 +6,7 @@ ghost use Rattle.fault_script.specs.Grammar.{Spells};
 ghost use Rattle.fault_script.specs.declared.lines.Line.{Line};
 
 use crate::forms::{
-    read_call, read_client, read_deliver, read_group, read_hosts, read_show, read_tick,
+    read_call, read_client, read_deliver, read_group, read_hosts, read_inject, read_show, read_tick,
 };
 use crate::lines::{LimitName, Line, LineFault};
 use crate::splitting::{is_comment, split_first, split_words};
@@ -31,6 +31,7 @@ fn read_form(alloc: Global, first: &[u8], rest: &[&[u8]]) -> Result<Line, LineFa
         Some(Verb::Deliver) => read_deliver(rest),
         Some(Verb::Tick) => read_tick(rest),
         Some(Verb::Show) => read_show(alloc, rest),
+        Some(Verb::Inject) => read_inject(alloc, rest),
     }
 }
 

@@ -1,5 +1,5 @@
 use crate::{Line, LineFault, Words, call_words, read_line};
-use ft_base::{Par, Signature};
+use ft_base::{Bytes, Par, Signature};
 use std::alloc::Global;
 use std::test::Fail;
 
@@ -23,6 +23,7 @@ fn shown(alloc: Global, text: &[u8]) -> Result<&'static str, LineFault> {
         Ok(Some(Line::Deliver(_))) => Ok("deliver"),
         Ok(Some(Line::Tick(_))) => Ok("tick"),
         Ok(Some(Line::Show(_))) => Ok("show"),
+        Ok(Some(Line::Inject { host: _, bytes: _ })) => Ok("inject"),
         Err(fault) => Err(fault),
     }
 }
@@ -31,7 +32,7 @@ fn shown_text(alloc: Global, text: &str) -> Result<&'static str, LineFault> {
     shown(alloc, text.as_bytes())
 }
 
-const LINES: [(&str, Result<&str, LineFault>); 66] = [
+const LINES: [(&str, Result<&str, LineFault>); 82] = [
     ("", Ok("nothing")),
     (" \t\r", Ok("nothing")),
     ("# frob", Ok("nothing")),
@@ -98,6 +99,22 @@ const LINES: [(&str, Result<&str, LineFault>); 66] = [
     ("bind c1", Err(LineFault::Later)),
     ("logfail g", Err(LineFault::Later)),
     ("set frob", Err(LineFault::Later)),
+    ("inject 0 -", Ok("inject")),
+    ("inject 0 47494f50", Ok("inject")),
+    ("inject 63 47494F50", Ok("inject")),
+    ("inject 00000000000000000000 aF", Ok("inject")),
+    ("inject 000000000000000000000 00", Err(LineFault::Syntax)),
+    ("inject 0 4", Err(LineFault::Syntax)),
+    ("inject 0 47494f5", Err(LineFault::Syntax)),
+    ("inject 0 4g", Err(LineFault::Syntax)),
+    ("inject 0 0x00", Err(LineFault::Syntax)),
+    ("inject 0 --", Err(LineFault::Syntax)),
+    ("inject x 00", Err(LineFault::Syntax)),
+    ("inject -1 00", Err(LineFault::Syntax)),
+    ("inject 0", Err(LineFault::Syntax)),
+    ("inject", Err(LineFault::Syntax)),
+    ("inject 0 00 00", Err(LineFault::Syntax)),
+    ("Inject 0 00", Err(LineFault::Syntax)),
 ];
 
 #[test]
@@ -177,6 +194,31 @@ fn values(rt: HostRuntime) -> Result<(), Fail> {
         u64::MAX
     );
     assert_eq!(rt; member(rt.alloc(), "group bank account cold 03"), 3);
+    Ok(())
+}
+
+const INJECTS: [(&str, u64, &[u8]); 5] = [
+    ("inject 0 -", 0, b""),
+    ("inject 0 47494f50", 0, b"GIOP"),
+    ("inject 0063 47494F50", 63, b"GIOP"),
+    ("inject 18446744073709551615 00fF", u64::MAX, b"\0\xff"),
+    ("inject 18446744073709551616 0102", u64::MAX, b"\x01\x02"),
+];
+
+fn injected(alloc: Global, text: &str) -> Option<(u64, Bytes)> {
+    match read_line(alloc, text.as_bytes()) {
+        Ok(Some(Line::Inject { host, bytes })) => Some((host, bytes)),
+        _ => None,
+    }
+}
+
+#[test]
+fn injects(rt: HostRuntime) -> Result<(), Fail> {
+    for (text, number, octets) in INJECTS.iter() {
+        let (host, bytes) = injected(rt.alloc(), *text).ok_or("refused")?;
+        assert_eq!(rt; host, *number, "{text}");
+        assert_eq!(rt; bytes.bytes(), *octets, "{text}");
+    }
     Ok(())
 }
 

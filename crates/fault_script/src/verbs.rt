@@ -13,6 +13,7 @@ pub(crate) enum Verb {
     Deliver,
     Tick,
     Show,
+    Inject,
 }
 
 /// The line that a first word begins, of those that are built.
@@ -33,13 +34,14 @@ pub(crate) fn find_verb(first: &[u8]) -> Option<Verb>
         Some(Verb::Tick)
     } else if first == b"show".as_slice() {
         Some(Verb::Show)
+    } else if first == b"inject".as_slice() {
+        Some(Verb::Inject)
     } else {
         None
     }
 }
 
-static UNBUILT: [&[u8]; 27] = [
-    b"inject",
+static UNBUILT: [&[u8]; 26] = [
     b"create",
     b"set",
     b"unset",

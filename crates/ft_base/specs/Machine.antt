@@ -14,6 +14,10 @@ pub record Machine : Type 0 where
   pub is_state : List ℕ → Bool
   -- the state after a request, and its outcome
   pub step : List ℕ → Request → List ℕ × Outcome
+  -- the update bytes from a base state to a later state
+  pub delta : List ℕ → List ℕ → List ℕ
+  -- the state after an update to a state; none where these bytes are no update of it
+  pub applied : List ℕ → List ℕ → Option (List ℕ)
 
 -- arguments are in the canonical form of an operation that there is
 abbrev pub FitsAs : Option Signature → List ℕ → Type 0

@@ -1,4 +1,4 @@
-use crate::numbers::Tick;
+use crate::numbers::{Tick, Version};
 
 /// What a host made of a request: the first rule of a group that applied, with its numbers.
 #[derive(Clone, Copy, Debug, PartialEq, Eq)]
@@ -13,6 +13,26 @@ pub enum Decision {
     Other(u32),
     /// The journal holds as many entries as it can, this many.
     Full(u32),
+    /// The log couldn't be written.
+    LogFault,
+    /// It asks for a version of the group's reference that there isn't yet.
+    Newer { asked: Version, newest: Version },
+    /// The view of this version has no members.
+    Empty(Version),
+    /// It asks for an older version than the one that the host knows.
+    Older { asked: Version, known: Version },
+    /// The host is no member in the view of this version.
+    Stranger(Version),
+    /// Another member is the primary in the view of this version.
+    Backup(Version),
+    /// The host was the primary in the view that it knew, and there is a newer one.
+    Deposed { known: Version, newest: Version },
     /// The servant has no such operation.
     BadOperation,
+    /// Its body isn't the operation's parameters from this place on, counted from the body's first byte.
+    Marshal(u32),
+    /// Its arguments have too many bytes, this many in canonical form.
+    Long(u32),
+    /// The service context with this id stands twice or can't be read.
+    Context(u32),
 }

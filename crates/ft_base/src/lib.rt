@@ -6,6 +6,7 @@
 mod counter;
 mod decisions;
 mod memory;
+mod moves;
 mod numbers;
 mod requests;
 mod servants;
@@ -15,9 +16,10 @@ mod views;
 pub use counter::Steps;
 pub use decisions::Decision;
 pub use memory::NoMemory;
+pub use moves::{move_state, move_update};
 pub use numbers::{GroupId, HostNo, Retention, Tick, Version};
 pub use requests::{Key, Outcome, Par, Request, Signature};
-pub use servants::Servant;
+pub use servants::{Servant, StateFault, UpdateFault};
 pub use text::{Bytes, NAME_LIMIT, Name, NameFault};
 pub use views::{MEMBER_LIMIT, Members, View};
 

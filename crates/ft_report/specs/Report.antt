@@ -2,17 +2,19 @@
 use Rattle.std.specs.Prelude.{ℕ, Bool, true, false, List, [], ◌∷◌, codes, decimal, unwrap_or}
 use Rattle.std.specs.Fmt.{signed_decimal}
 use Rattle.ft_base.specs.declared.decisions.Decision.{Decision}
-use Rattle.ft_base.specs.declared.decisions.Decision.TheVariants.{Append, Repeat, Expired, Other, Full, BadOperation}
+use Rattle.ft_base.specs.declared.decisions.Decision.TheVariants as decisions
 use Rattle.sys_faults.specs.Kinds.{kind_name}
 use Rattle.sys_faults.specs.declared.faults.Completed.{Completed}
 use Rattle.sys_faults.specs.declared.faults.Completed.TheVariants.{Yes, No, Maybe}
 use Rattle.sys_faults.specs.declared.faults.SysKind.{SysKind}
 use Rattle.sys_faults.specs.declared.faults.SysKind.TheVariants.{Unknown}
+use Rattle.giop_messages.specs.declared.faults.Why.{Why}
+use Rattle.giop_messages.specs.declared.faults.Why.TheVariants as causes
 use Rattle.ft_report.specs.Words.{host_text, hosts_text, line, octets_text, spaced}
 use Rattle.ft_report.specs.declared.outcomes.Worth.{Worth}
 use Rattle.ft_report.specs.declared.outcomes.Worth.TheVariants as worths
 use Rattle.ft_report.specs.declared.outcomes.Shown.{Shown}
-use Rattle.ft_report.specs.declared.outcomes.Shown.TheVariants.{Value, User, System}
+use Rattle.ft_report.specs.declared.outcomes.Shown.TheVariants.{Value, User, System, Forward, ForwardPerm}
 use Rattle.ft_report.specs.declared.reports.Role.{Role}
 use Rattle.ft_report.specs.declared.reports.Role.TheVariants as roles
 use Rattle.ft_report.specs.declared.reports.ReportLine.{ReportLine}
@@ -43,18 +45,53 @@ shown_text (Value worth) = spaced (codes "value" ∷ worth_text worth ∷ [])
 shown_text (User name) = spaced (codes "user" ∷ name ∷ [])
 shown_text (System fault) =
     spaced (codes "system" ∷ kind_text fault.kind ∷ decimal fault.minor ∷ completed_text fault.completed ∷ [])
+shown_text (Forward group version) = spaced (codes "forward" ∷ group ∷ decimal version.0 ∷ [])
+shown_text (ForwardPerm group version) = spaced (codes "forward-perm" ∷ group ∷ decimal version.0 ∷ [])
+
+-- a word and a number, and a word and two
+abbrev pub with_number : List ℕ → ℕ → List ℕ
+with_number word n = spaced (word ∷ decimal n ∷ [])
+
+abbrev pub with_numbers : List ℕ → ℕ → ℕ → List ℕ
+with_numbers word n m = spaced (word ∷ decimal n ∷ decimal m ∷ [])
 
 abbrev pub decision_text : Decision → List ℕ
-decision_text (Append place) = spaced (codes "append" ∷ decimal place ∷ [])
-decision_text (Repeat place) = spaced (codes "repeat" ∷ decimal place ∷ [])
-decision_text (Expired expiration now) = spaced (codes "expired" ∷ decimal expiration.0 ∷ decimal now.0 ∷ [])
-decision_text (Other place) = spaced (codes "other" ∷ decimal place ∷ [])
-decision_text (Full count) = spaced (codes "full" ∷ decimal count ∷ [])
-decision_text BadOperation = codes "badop"
+decision_text (decisions.Append place) = with_number (codes "append") place
+decision_text (decisions.Repeat place) = with_number (codes "repeat") place
+decision_text (decisions.Expired expiration now) = with_numbers (codes "expired") expiration.0 now.0
+decision_text (decisions.Other place) = with_number (codes "other") place
+decision_text (decisions.Full count) = with_number (codes "full") count
+decision_text decisions.LogFault = codes "logfault"
+decision_text (decisions.Newer asked newest) = with_numbers (codes "newer") asked.0 newest.0
+decision_text (decisions.Empty known) = with_number (codes "empty") known.0
+decision_text (decisions.Older asked known) = with_numbers (codes "older") asked.0 known.0
+decision_text (decisions.Stranger known) = with_number (codes "stranger") known.0
+decision_text (decisions.Backup known) = with_number (codes "backup") known.0
+decision_text (decisions.Deposed known newest) = with_numbers (codes "deposed") known.0 newest.0
+decision_text decisions.BadOperation = codes "badop"
+decision_text (decisions.Marshal place) = with_number (codes "marshal") place
+decision_text (decisions.Long count) = with_number (codes "long") count
+decision_text (decisions.Context id) = with_number (codes "context") id
 
 abbrev pub role_text : Role → List ℕ
 role_text roles.Primary = codes "primary"
 role_text roles.Backup = codes "backup"
+
+-- what is wrong with a message
+abbrev pub why_text : Why → List ℕ
+why_text causes.Magic = codes "magic"
+why_text causes.Version = codes "version"
+why_text causes.Flags = codes "flags"
+why_text causes.Kind = codes "kind"
+why_text causes.Length = codes "length"
+why_text causes.Open = codes "open"
+why_text causes.Cut = codes "cut"
+why_text causes.Short = codes "short"
+why_text causes.BadBool = codes "badbool"
+why_text causes.BadString = codes "badstring"
+why_text causes.BadOrder = codes "badorder"
+why_text causes.Address = codes "address"
+why_text causes.Status = codes "status"
 
 -- the bytes of each line
 abbrev pub rendered : ReportLine → List ℕ
@@ -78,3 +115,13 @@ rendered (lines.Show group version entries mark time) =
     line (codes "show" ∷ group ∷ codes "view" ∷ decimal version.0 ∷ codes "entries" ∷ decimal entries ∷ codes "mark" ∷ decimal mark ∷ codes "time" ∷ decimal time.0 ∷ [])
 rendered (lines.Member host role known position state) =
     line (codes "member" ∷ decimal host.0 ∷ role_text role ∷ codes "known" ∷ decimal known.0 ∷ codes "at" ∷ decimal position ∷ codes "state" ∷ octets_text state ∷ [])
+rendered (lines.NoGroup host) =
+    line (codes "at" ∷ decimal host.0 ∷ codes "- nogroup" ∷ [])
+rendered (lines.Bytes bytes) =
+    line (codes "bytes" ∷ octets_text bytes ∷ [])
+rendered lines.LinkClosed =
+    line (codes "link closed" ∷ [])
+rendered (lines.LinkMalformed why place) =
+    line (codes "link malformed" ∷ why_text why ∷ decimal place ∷ [])
+rendered (lines.LinkTooLarge size) =
+    line (codes "link too-large" ∷ decimal size ∷ [])

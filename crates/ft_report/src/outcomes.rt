@@ -4,7 +4,7 @@ ghost use Rattle.ft_base.specs.declared.requests.Par.TheVariants.{I64, U32, Bool
 ghost use Rattle.ft_report.specs.Worth.{flag_in, long_in, octets_in, text_in, unsigned_in, worth_in};
 
 use byteorder::{BigEndian, ByteOrder};
-use ft_base::{Bytes, Name, NoMemory, Par};
+use ft_base::{Bytes, Name, NoMemory, Par, Version};
 use std::alloc::Global;
 use sys_faults::SysFault;
 
@@ -23,6 +23,10 @@ pub enum Shown {
     Value(Worth),
     User(Name),
     System(SysFault),
+    /// The client is turned, for this request alone, to the reference of the group's view of this version.
+    Forward { group: Name, version: Version },
+    /// The same from now on.
+    ForwardPerm { group: Name, version: Version },
 }
 
 impl Worth {
@@ -59,6 +63,16 @@ impl Shown {
             Shown::System(fault) => {
                 let fault = fault.copy(alloc)?;
                 Ok(Shown::System(fault))
+            }
+            Shown::Forward { group, version } => {
+                let version = *version;
+                let group = group.copy(alloc)?;
+                Ok(Shown::Forward { group, version })
+            }
+            Shown::ForwardPerm { group, version } => {
+                let version = *version;
+                let group = group.copy(alloc)?;
+                Ok(Shown::ForwardPerm { group, version })
             }
         }
     }

@@ -1,12 +1,14 @@
-ghost use Rattle.std.specs.Prelude.{◌≡◌, IfOk};
+ghost use Rattle.std.specs.Prelude.{◌≡◌, ◌∷◌, [], decimal, IfOk};
 ghost use Rattle.std.specs.List.{flat_map};
-ghost use Rattle.ft_report.specs.Report.{completed_text, decision_text, flag_text, kind_text, rendered, role_text, shown_text, worth_text};
+ghost use Rattle.ft_report.specs.Words.{spaced};
+ghost use Rattle.ft_report.specs.Report.{completed_text, decision_text, flag_text, kind_text, rendered, role_text, shown_text, why_text, with_number, with_numbers, worth_text};
 
 use crate::outcomes::{Shown, Worth};
 use crate::reports::{ReportLine, ReportLines, Role};
 use crate::words::Word::{Fixed, Host, Made, Number, Signed, Text};
 use crate::words::{hosts, octets, phrase, whole_line};
 use ft_base::{Bytes, Decision, HostNo, Members, Name, NoMemory, Tick, Version};
+use giop_messages::Why;
 use std::alloc::Global;
 use sys_faults::{Completed, SysFault, SysKind};
 
@@ -35,6 +37,26 @@ fn role_bytes(role: Role) -> &'static [u8]
     }
 }
 
+fn why_bytes(why: Why) -> &'static [u8]
+    ensures { result.now ≡ why_text why }
+{
+    match why {
+        Why::Magic => b"magic",
+        Why::Version => b"version",
+        Why::Flags => b"flags",
+        Why::Kind => b"kind",
+        Why::Length => b"length",
+        Why::Open => b"open",
+        Why::Cut => b"cut",
+        Why::Short => b"short",
+        Why::BadBool => b"badbool",
+        Why::BadString => b"badstring",
+        Why::BadOrder => b"badorder",
+        Why::Address => b"address",
+        Why::Status => b"status",
+    }
+}
+
 fn worth_bytes(alloc: Global, worth: &Worth) -> Result<Bytes, NoMemory>
     ensures { IfOk result (λ bytes. bytes ≡ worth_text worth.now) }
 {
@@ -58,6 +80,25 @@ fn kind_bytes(alloc: Global, kind: &SysKind) -> Result<Bytes, NoMemory>
     }
 }
 
+// A word, a group's name and the version of a view.
+fn forward_bytes(
+    alloc: Global,
+    word: &'static [u8],
+    group: &Name,
+    version: Version,
+) -> Result<Bytes, NoMemory>
+    ensures { IfOk result (λ bytes. bytes ≡ spaced (word.now ∷ group.now ∷ decimal version.0 ∷ [])) }
+{
+    phrase(
+        alloc,
+        &[
+            Fixed(word),
+            Text(group.bytes()),
+            Number(u64::from(version.0)),
+        ],
+    )
+}
+
 fn shown_bytes(alloc: Global, shown: &Shown) -> Result<Bytes, NoMemory>
     ensures { IfOk result (λ bytes. bytes ≡ shown_text shown.now) }
 {
@@ -79,22 +120,65 @@ fn shown_bytes(alloc: Global, shown: &Shown) -> Result<Bytes, NoMemory>
                 ],
             )
         }
+        Shown::Forward { group, version } => forward_bytes(alloc, b"forward", group, *version),
+        Shown::ForwardPerm { group, version } => {
+            forward_bytes(alloc, b"forward-perm", group, *version)
+        }
     }
+}
+
+// A word and a number.
+fn with_number(alloc: Global, word: &'static [u8], number: u64) -> Result<Bytes, NoMemory>
+    ensures { IfOk result (λ bytes. bytes ≡ with_number word.now number) }
+{
+    phrase(alloc, &[Fixed(word), Number(number)])
+}
+
+// A word and two numbers.
+fn with_numbers(
+    alloc: Global,
+    word: &'static [u8],
+    first: u64,
+    second: u64,
+) -> Result<Bytes, NoMemory>
+    ensures { IfOk result (λ bytes. bytes ≡ with_numbers word.now first second) }
+{
+    phrase(alloc, &[Fixed(word), Number(first), Number(second)])
+}
+
+fn versions(
+    alloc: Global,
+    word: &'static [u8],
+    first: Version,
+    second: Version,
+) -> Result<Bytes, NoMemory>
+    ensures { IfOk result (λ bytes. bytes ≡ with_numbers word.now first.0 second.0) }
+{
+    with_numbers(alloc, word, u64::from(first.0), u64::from(second.0))
 }
 
 fn decision_bytes(alloc: Global, decision: Decision) -> Result<Bytes, NoMemory>
     ensures { IfOk result (λ bytes. bytes ≡ decision_text decision) }
 {
     match decision {
-        Decision::Append(place) => phrase(alloc, &[Fixed(b"append"), Number(u64::from(place))]),
-        Decision::Repeat(place) => phrase(alloc, &[Fixed(b"repeat"), Number(u64::from(place))]),
-        Decision::Expired { expiration, now } => phrase(
-            alloc,
-            &[Fixed(b"expired"), Number(expiration.0), Number(now.0)],
-        ),
-        Decision::Other(place) => phrase(alloc, &[Fixed(b"other"), Number(u64::from(place))]),
-        Decision::Full(count) => phrase(alloc, &[Fixed(b"full"), Number(u64::from(count))]),
+        Decision::Append(place) => with_number(alloc, b"append", u64::from(place)),
+        Decision::Repeat(place) => with_number(alloc, b"repeat", u64::from(place)),
+        Decision::Expired { expiration, now } => {
+            with_numbers(alloc, b"expired", expiration.0, now.0)
+        }
+        Decision::Other(place) => with_number(alloc, b"other", u64::from(place)),
+        Decision::Full(count) => with_number(alloc, b"full", u64::from(count)),
+        Decision::LogFault => Bytes::of(alloc, b"logfault"),
+        Decision::Newer { asked, newest } => versions(alloc, b"newer", asked, newest),
+        Decision::Empty(known) => with_number(alloc, b"empty", u64::from(known.0)),
+        Decision::Older { asked, known } => versions(alloc, b"older", asked, known),
+        Decision::Stranger(known) => with_number(alloc, b"stranger", u64::from(known.0)),
+        Decision::Backup(known) => with_number(alloc, b"backup", u64::from(known.0)),
+        Decision::Deposed { known, newest } => versions(alloc, b"deposed", known, newest),
         Decision::BadOperation => Bytes::of(alloc, b"badop"),
+        Decision::Marshal(place) => with_number(alloc, b"marshal", u64::from(place)),
+        Decision::Long(count) => with_number(alloc, b"long", u64::from(count)),
+        Decision::Context(id) => with_number(alloc, b"context", u64::from(id)),
     }
 }
 
@@ -258,6 +342,35 @@ fn member_line(
     Ok(bytes)
 }
 
+fn no_group_line(alloc: Global, host: HostNo) -> Result<Bytes, NoMemory>
+    ensures { IfOk result (λ bytes. bytes ≡ rendered (ReportLine.NoGroup host)) }
+{
+    whole_line(
+        alloc,
+        &[Fixed(b"at"), Number(u64::from(host.0)), Fixed(b"- nogroup")],
+    )
+}
+
+fn bytes_line(alloc: Global, written: &Bytes) -> Result<Bytes, NoMemory>
+    ensures { IfOk result (λ bytes. bytes ≡ rendered (ReportLine.Bytes written.now)) }
+{
+    let written = octets(alloc, written)?;
+    whole_line(alloc, &[Fixed(b"bytes"), Made(written.bytes())])
+}
+
+fn malformed_line(alloc: Global, why: Why, place: u32) -> Result<Bytes, NoMemory>
+    ensures { IfOk result (λ bytes. bytes ≡ rendered (ReportLine.LinkMalformed why place)) }
+{
+    whole_line(
+        alloc,
+        &[
+            Fixed(b"link malformed"),
+            Fixed(why_bytes(why)),
+            Number(u64::from(place)),
+        ],
+    )
+}
+
 /// A line's bytes, with its LF.
 pub fn render(alloc: Global, line: &ReportLine) -> Result<Bytes, NoMemory>
     ensures { IfOk result (λ bytes. bytes ≡ rendered line.now) }
@@ -316,6 +429,13 @@ pub fn render(alloc: Global, line: &ReportLine) -> Result<Bytes, NoMemory>
             position,
             state,
         } => member_line(alloc, *host, *role, *known, *position, state),
+        ReportLine::NoGroup { host } => no_group_line(alloc, *host),
+        ReportLine::Bytes(written) => bytes_line(alloc, written),
+        ReportLine::LinkClosed => whole_line(alloc, &[Fixed(b"link closed")]),
+        ReportLine::LinkMalformed { why, place } => malformed_line(alloc, *why, *place),
+        ReportLine::LinkTooLarge(size) => {
+            whole_line(alloc, &[Fixed(b"link too-large"), Number(*size)])
+        }
     }
 }
 

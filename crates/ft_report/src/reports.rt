@@ -3,6 +3,7 @@ ghost use Rattle.ft_report.specs.declared.reports.ReportLine.{ReportLine};
 
 use crate::outcomes::Shown;
 use ft_base::{Bytes, Decision, GroupId, HostNo, Members, Name, NoMemory, Tick, Version};
+use giop_messages::Why;
 use std::alloc::Global;
 use std::marker::Model;
 
@@ -79,6 +80,22 @@ pub enum ReportLine {
         position: u32,
         state: Bytes,
     },
+    /// A request came to a host that serves no group by the name that the request gives.
+    NoGroup {
+        host: HostNo,
+    },
+    /// What a host wrote on a link, as it stands there.
+    Bytes(Bytes),
+    /// A link ended in order.
+    LinkClosed,
+    /// A link ended at bytes that are no message: what is wrong with them, and at which byte of the
+    /// message.
+    LinkMalformed {
+        why: Why,
+        place: u32,
+    },
+    /// A link ended at a message that is too large, of as many bytes.
+    LinkTooLarge(u64),
 }
 
 /// The lines of one event, in order.

@@ -6,6 +6,7 @@ use crate::outcomes::{Shown, Worth, worth_of};
 use crate::rendering::{render, render_all};
 use crate::reports::{ReportLine, ReportLines, Role};
 use ft_base::{Bytes, Decision, GroupId, HostNo, Members, Name, NoMemory, Par, Tick, Version};
+use giop_messages::Why;
 use std::alloc::Global;
 use sys_faults::{Completed, SysFault, SysKind};
 
@@ -171,6 +172,36 @@ fn refusals(alloc: Global, lines: &mut ReportLines) -> Result<(), NoMemory> {
     Ok(())
 }
 
+// What a host makes of a request that another rule of its group refuses.
+const REFUSED: [Decision; 10] = [
+    Decision::LogFault,
+    Decision::Newer {
+        asked: Version(3),
+        newest: Version(2),
+    },
+    Decision::Empty(Version(3)),
+    Decision::Older {
+        asked: Version(0),
+        known: Version(1),
+    },
+    Decision::Stranger(Version(1)),
+    Decision::Backup(Version(2)),
+    Decision::Deposed {
+        known: Version(1),
+        newest: Version(2),
+    },
+    Decision::Marshal(8),
+    Decision::Long(4097),
+    Decision::Context(13),
+];
+
+fn each_decision(alloc: Global, lines: &mut ReportLines) -> Result<(), NoMemory> {
+    for decision in &REFUSED {
+        lines.push(at(alloc, *decision)?)?;
+    }
+    Ok(())
+}
+
 fn outcomes(alloc: Global, lines: &mut ReportLines) -> Result<(), NoMemory> {
     let exception = name(alloc, b"BadAmount")?;
     lines.push(done(alloc, 3, Shown::User(exception))?)?;
@@ -187,7 +218,56 @@ fn outcomes(alloc: Global, lines: &mut ReportLines) -> Result<(), NoMemory> {
     Ok(())
 }
 
-const WANT: [&str; 28] = [
+fn forwards(alloc: Global, lines: &mut ReportLines) -> Result<(), NoMemory> {
+    let group = name(alloc, b"bank")?;
+    let version = Version(2);
+    lines.push(done(alloc, 11, Shown::Forward { group, version })?)?;
+    let group = name(alloc, b"bank")?;
+    let version = Version(u32::MAX);
+    let perm = Shown::ForwardPerm { group, version };
+    lines.push(reply(alloc, 6, b"ann", 3, perm.copy(alloc)?)?)?;
+    Ok(())
+}
+
+const CAUSES: [Why; 13] = [
+    Why::Magic,
+    Why::Version,
+    Why::Flags,
+    Why::Kind,
+    Why::Length,
+    Why::Open,
+    Why::Cut,
+    Why::Short,
+    Why::BadBool,
+    Why::BadString,
+    Why::BadOrder,
+    Why::Address,
+    Why::Status,
+];
+
+// What a host makes of the bytes of a link.
+fn links(alloc: Global, lines: &mut ReportLines) -> Result<(), NoMemory> {
+    lines.push(ReportLine::NoGroup { host: HostNo(63) })?;
+    let written = Bytes::of(alloc, b"GIOP\x01\x02\xff")?;
+    lines.push(ReportLine::Bytes(written))?;
+    let none = Bytes::of(alloc, b"")?;
+    lines.push(ReportLine::Bytes(none))?;
+    lines.push(ReportLine::LinkClosed)?;
+    lines.push(ReportLine::LinkTooLarge(4294967307))?;
+    for why in &CAUSES {
+        lines.push(ReportLine::LinkMalformed {
+            why: *why,
+            place: 12,
+        })?;
+    }
+    lines.push(ReportLine::LinkMalformed {
+        why: Why::Cut,
+        place: u32::MAX,
+    })?;
+    Ok(())
+}
+
+const WANT: [&str; 59] = [
     "group bank 1\n",
     "view bank 1 members 0 primary 0\n",
     "view bank 2 members 63,0,7 primary 63\n",
@@ -216,6 +296,37 @@ const WANT: [&str; 28] = [
     "done ann 8 value -\n",
     "done ann 9 system NO_RESPONSE 1 maybe\n",
     "done ann 10 system 49444c3a78 7 yes\n",
+    "at 0 bank logfault\n",
+    "at 0 bank newer 3 2\n",
+    "at 0 bank empty 3\n",
+    "at 0 bank older 0 1\n",
+    "at 0 bank stranger 1\n",
+    "at 0 bank backup 2\n",
+    "at 0 bank deposed 1 2\n",
+    "at 0 bank marshal 8\n",
+    "at 0 bank long 4097\n",
+    "at 0 bank context 13\n",
+    "done ann 11 forward bank 2\n",
+    "msg 6 host 0 to client ann reply 3 forward-perm bank 4294967295\n",
+    "at 63 - nogroup\n",
+    "bytes 47494f500102ff\n",
+    "bytes -\n",
+    "link closed\n",
+    "link too-large 4294967307\n",
+    "link malformed magic 12\n",
+    "link malformed version 12\n",
+    "link malformed flags 12\n",
+    "link malformed kind 12\n",
+    "link malformed length 12\n",
+    "link malformed open 12\n",
+    "link malformed cut 12\n",
+    "link malformed short 12\n",
+    "link malformed badbool 12\n",
+    "link malformed badstring 12\n",
+    "link malformed badorder 12\n",
+    "link malformed address 12\n",
+    "link malformed status 12\n",
+    "link malformed cut 4294967295\n",
 ];
 
 #[test]
@@ -226,6 +337,9 @@ fn each_line(rt: HostRuntime) -> Result<(), NoMemory> {
     one_call(alloc, &mut lines)?;
     refusals(alloc, &mut lines)?;
     outcomes(alloc, &mut lines)?;
+    each_decision(alloc, &mut lines)?;
+    forwards(alloc, &mut lines)?;
+    links(alloc, &mut lines)?;
     assert_eq!(rt; lines.len(), WANT.len());
     let mut whole = Vec::new(alloc);
     for (line, want) in lines.as_slice().iter().zip(&WANT) {

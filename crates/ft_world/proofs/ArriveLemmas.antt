@@ -7,14 +7,15 @@ use Rattle.fault_script.specs.declared.lines.LineFault.{LineFault}
 use Rattle.ft_report.specs.declared.outcomes.Shown.{Shown}
 use Rattle.ft_report.specs.declared.reports.ReportLine.{ReportLine}
 use Rattle.ft_report.specs.declared.reports.ReportLine.TheVariants as reports
-use Rattle.ft_world.specs.Servant.{machine}
-use Rattle.ft_world.specs.Group as plain
-use Rattle.ft_world.specs.Group.{Group, serve, shown}
-use Rattle.ft_world.specs.Kept.{IsCountedWithin}
+use Rattle.group_core.specs.Servant.{machine}
+use Rattle.group_core.specs.Group as plain
+use Rattle.group_core.specs.Group.{Group, serve}
+use Rattle.ft_world.specs.Printed.{shown}
+use Rattle.group_core.specs.Kept.{IsCountedWithin}
 use Rattle.ft_world.specs.World.{Turn, World, arrives_of, calls_of, judged, served_by}
 use Rattle.ft_world.specs.Sound.{AnsweredAfter, Did, FailsAt, IsServedAt}
 use Rattle.ft_world.specs.declared.clients.Client.{Client}
-use Rattle.ft_world.specs.declared.groups.Served.{Served}
+use Rattle.group_core.specs.declared.groups.Served.{Served}
 use Rattle.ft_world.specs.declared.messages.Attempt.{Attempt}
 use Rattle.ft_world.specs.declared.messages.Message.TheVariants as messages
 use Rattle.ft_world.proofs.TurnLemmas.{calls_of-unless, did_after}
@@ -27,7 +28,7 @@ made a mid decision group client printed calls =
 
 made_is : (w : World) (a : Attempt) (g : Group) (c : Client) (wanted : plain.Served) →
     made a (record w { groups = slice_set w.groups a.group wanted.group }) wanted.decision g.name c.name
-    (shown (machine.signature a.request.op) wanted.answer) wanted.calls
+    (shown g.name (machine.signature a.request.op) wanted.answer) wanted.calls
     ≡ served_by w a g c wanted
 unfolding made
 made_is w a g c wanted = refl
@@ -79,7 +80,7 @@ arrives_unshown w mid a g c clock before later s here there time is =
 pub arrives_did : (w mid new : World) (a : Attempt) (g : Group) (c : Client) (clock before later : ℕ) (s : Served) (signature : Option Signature)
     (printed : Shown) (group client : List ℕ) (r : Result (List ReportLine) LineFault) → slice_get w.groups a.group ≡ Some g →
     slice_get w.clients a.client ≡ Some c → clock ≡ slice_index w.hosts a.host.0 → IsServedAt a.group clock a.request w s mid before later →
-    group ≡ g.name → client ≡ c.name → signature ≡ machine.signature a.request.op → printed ≡ shown signature s.answer →
+    group ≡ g.name → client ≡ c.name → signature ≡ machine.signature a.request.op → printed ≡ shown group signature s.answer →
     ((calls : ℕ) → AnsweredAfter calls
     (judged (record mid { messages = mid.messages ++ messages.Reply (record { client = a.client; host = a.host; id = a.id; shown = printed }) ∷ [] })
     (reports.At a.host group s.decision ∷ reports.Reply (length mid.messages + 1) a.host client a.id printed ∷ []) calls) r new) →
@@ -95,9 +96,9 @@ arrives_did w mid new a g c clock before later s signature printed group client 
     let world : mid ≡ then =
     is.left ∙ ap (λ (h : Group). record w { groups = slice_set w.groups a.group h }) next in
     let decision : s.decision ≡ wanted.decision = is.is.decision ∙ ap (λ (v : plain.Served). v.decision) served in
-    let answer : printed ≡ shown (machine.signature a.request.op) wanted.answer =
-    print ∙ ap (λ (o : Option Signature). shown o s.answer) sig
-    ∙ ap (shown (machine.signature a.request.op)) (is.is.answer ∙ ap (λ (v : plain.Served). v.answer) served) in
+    let answer : printed ≡ shown g.name (machine.signature a.request.op) wanted.answer =
+    print ∙ ap (λ (n : List ℕ). shown n signature s.answer) gname ∙ ap (λ (o : Option Signature). shown g.name o s.answer) sig
+    ∙ ap (shown g.name (machine.signature a.request.op)) (is.is.answer ∙ ap (λ (v : plain.Served). v.answer) served) in
     let turn : made a mid s.decision group client printed wanted.calls
     ≡ arrives_of w a (slice_get w.groups a.group) (slice_get w.clients a.client) =
     ap (λ (m : World). made a m s.decision group client printed wanted.calls) world

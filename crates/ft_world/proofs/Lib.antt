@@ -1,9 +1,12 @@
-pub mod KeptLemmas
-pub mod ServantLaws
-pub mod AdmissionLemmas
 pub mod PlaceLemmas
 pub mod SoundLemmas
 pub mod CallLemmas
 pub mod TurnLemmas
 pub mod ArriveLemmas
 pub mod OnceLemmas
+pub mod ServingLemmas
+pub mod ShortLemmas
+pub mod SessionLemmas
+pub mod PortLemmas
+pub mod AskingLemmas
+pub mod InjectLemmas

@@ -1,78 +1,33 @@
 -- Every line keeps at most once, in each group's journal.
-use Rattle.std.proofs.Common.{◌≡◌, ℕ, zero, suc, ◌++◌, ◌<◌, Bool, true, false, cond, List, [], ◌∷◌, Option, Some, None, Result, Ok, Err, refl, subst, sym, ap, ◌∙◌}
-use Rattle.std.specs.Prelude.{is_some, max, nat_le, slice_get, slice_index, slice_set}
-use Rattle.std.proofs.lemmas.Bool.{leb-false}
-use Rattle.ft_base.specs.Journal.{AtMostOnce, CanJoin, Entry, held}
-use Rattle.ft_base.proofs.Once.{AtMostOnce-push}
-use Rattle.ft_base.specs.declared.requests.Key.{Key}
-use Rattle.ft_base.specs.declared.requests.Request.{Request}
+use Rattle.std.proofs.Common.{◌≡◌, ℕ, zero, suc, ◌++◌, Bool, true, false, cond, List, [], ◌∷◌, Option, Some, None, Result, Ok, Err, refl, subst}
+use Rattle.std.specs.Prelude.{◌-◌, ◌==◌, option_map, slice_get, slice_index, slice_set}
+use Rattle.ft_base.specs.Journal.{AtMostOnce}
 use Rattle.fault_script.specs.declared.arguments.Said.{Said}
 use Rattle.fault_script.specs.declared.lines.Line.{Line}
 use Rattle.fault_script.specs.declared.lines.Line.TheVariants as lines
 use Rattle.fault_script.specs.declared.lines.LineFault.{LineFault}
 use Rattle.ft_report.specs.declared.reports.ReportLine.{ReportLine}
 use Rattle.ft_report.specs.declared.reports.ReportLine.TheVariants as reports
-use Rattle.ft_world.specs.Servant.{machine}
-use Rattle.ft_world.specs.Group.{Group, Served, admission, against_entry, against_held, by_key, decided, serve, with_operation}
-use Rattle.ft_world.specs.World.{Placed, Turn, World, Goes, Refused, act, arrives_of, call_by, call_from, call_said, call_to, called, client_causes, delivered, ended, first_cause, group_causes, heard_by, hosts_causes, is_waiting_for, judged, made_group, message_numbered, new_group, replied, show_found, total_causes, totals_of, unless, with_client, with_hosts}
+use Rattle.group_core.specs.Group.{Group, Served, ask, serve}
+use Rattle.ft_world.specs.World.{Placed, Turn, World, Goes, Refused, arrives_of, call_by, call_from, call_said, call_to, called, client_causes, delivered, ended, first_cause, group_causes, heard_by, hosts_causes, is_waiting_for, judged, made_group, message_numbered, new_group, placed, replied, show_found, total_causes, totals_of, unless, with_client, with_hosts}
+use Rattle.cdr_codec.specs.declared.orders.Order.{Order}
+use Rattle.giop_messages.specs.declared.messages.Message as giop
+use Rattle.giop_messages.specs.declared.messages.Message.TheVariants as sent
+use Rattle.giop_messages.specs.declared.messages.RequestMsg.{RequestMsg}
+use Rattle.giop_stream.specs.Parts.{Received}
+use Rattle.giop_stream.specs.Streams.{stream}
+use Rattle.group_core.specs.declared.asking.Asked.{Asked}
+use Rattle.group_core.specs.Asked.{asked_of}
+use Rattle.ft_world.specs.Acts.{act}
+use Rattle.ft_world.specs.Links.{LinkTurn, Linked, Ends, Serves, continued, group_by, group_keyed, inject_causes, link_end, link_of, linked_turn, message_turn, number_in, request_turn, session}
+use Rattle.ft_world.specs.declared.links.LinkEnd.{LinkEnd}
+use Rattle.group_core.proofs.OnceLemmas.{ask_once, once_none, serve_once}
 use Rattle.ft_world.specs.Once.{EachOnce, or_stay, world_after}
-use Rattle.ft_world.specs.declared.admissions.Admission.{Admission}
-use Rattle.ft_world.specs.declared.admissions.Admission.TheVariants.{Expired, Same, Other, Full, New}
 use Rattle.ft_world.specs.declared.clients.Client.{Client}
 use Rattle.ft_world.specs.declared.messages.Attempt.{Attempt}
 use Rattle.ft_world.specs.declared.messages.Message.{Message}
 use Rattle.ft_world.specs.declared.messages.Message.TheVariants as messages
 use Rattle.ft_world.specs.declared.messages.Reply.{Reply}
-
--- a journal without entries
-pub once_none : AtMostOnce []
-once_none = record { in_time = λ i e k at is. absurd cc; apart = λ i j e l f s lt at. absurd cc }
-
--- what the admission calls new can join
-
-entry_is_old : (b : Bool) (i : ℕ) → cond b (Same i) (Other i) ≡ New → ⊥
-entry_is_old true i h = cc
-entry_is_old false i h = cc
-
-old_entry : (i : ℕ) (q : Request) (key : Key) (o : Option Entry) → against_entry i q key o ≡ New → ⊥
-old_entry i q key None h = cc
-old_entry i q key (Some e) h = entry_is_old _ i h
-
-nothing_held : (journal : List Entry) (q : Request) (key : Key) (o : Option ℕ) → against_held journal q key o ≡ New → o ≡ None
-nothing_held journal q key None h = refl
-nothing_held journal q key (Some i) h = absurd (old_entry i q key (slice_get journal i) h)
-
-key_joins : (journal : List Entry) (now : ℕ) (q : Request) (key : Key) → by_key journal now q (Some key) ≡ New →
-    (now < key.expiration.0) × (held journal key now ≡ None)
-key_joins journal now q key h = go (nat_le key.expiration.0 now) refl h
-  where
-    go : (b : Bool) → nat_le key.expiration.0 now ≡ b → cond b (Expired key.expiration) (against_held journal q key (held journal key now)) ≡ New →
-        (now < key.expiration.0) × (held journal key now ≡ None)
-    go true t k = absurd cc
-    go false t k = (leb-false key.expiration.0 now t, nothing_held journal q key (held journal key now) k)
-
-pub new_joins : (journal : List Entry) (now : ℕ) (q : Request) → admission journal now q ≡ New →
-    CanJoin journal (record { at = now; request = q })
-new_joins journal now q h =
-    let keyed = λ (key : Key) (is : q.key ≡ Some key). key_joins journal now q key (ap (by_key journal now q) (sym is) ∙ h) in
-    record { in_time = λ key is. (keyed key is).0; free = λ key is. (keyed key is).1 }
-
--- a request leaves at most once
-
-decided_once : (g : Group) (now : ℕ) (q : Request) (a : Admission) → admission g.journal now q ≡ a → AtMostOnce g.journal →
-    AtMostOnce (decided g now q a).group.journal
-decided_once g now q (Expired e) is once = once
-decided_once g now q (Same i) is once = once
-decided_once g now q (Other i) is once = once
-decided_once g now q Full is once = once
-decided_once g now q New is once = AtMostOnce-push g.journal (record { at = now; request = q }) once (new_joins g.journal now q is)
-
-operation_once : (g : Group) (now : ℕ) (q : Request) (b : Bool) → AtMostOnce g.journal → AtMostOnce (with_operation g now q b).group.journal
-operation_once g now q false once = once
-operation_once g now q true once = decided_once g now q (admission g.journal now q) refl once
-
-pub serve_once : (g : Group) (clock : ℕ) (q : Request) → AtMostOnce g.journal → AtMostOnce (serve g clock q).group.journal
-serve_once g clock q once = operation_once g (max clock g.time) q (is_some (machine.signature q.op)) once
 
 -- of all groups
 
@@ -128,7 +83,7 @@ arrives_keeps w a None oc at each = each
 arrives_keeps w a (Some g) None at each = each
 arrives_keeps w a (Some g) (Some c) at each =
     let served : Served = serve g (slice_index w.hosts a.host.0) a.request in
-    judged_keeps (replied w a served) _ served.calls
+    judged_keeps (replied w a g.name served) _ served.calls
     (each_set w.groups a.group served.group each (serve_once g (slice_index w.hosts a.host.0) a.request (each_got w.groups a.group g each at)))
 
 heard_keeps : (w : World) (k : ℕ) (r : Reply) (o : Option Client) → EachOnce w.groups → Keeps (heard_by w k r o)
@@ -148,6 +103,55 @@ show_keeps : (w : World) (o : Option (Placed Group)) → EachOnce w.groups → K
 show_keeps w None each = tt
 show_keeps w (Some g) each = each
 
+-- a message's turn keeps it, and so does a link
+abbrev KeepsLink : LinkTurn → Type 0
+KeepsLink (Serves next lines calls) = EachOnce next.groups
+KeepsLink (Ends end) = Unit {0}
+
+mapped_at : (groups : List Group) (i : ℕ) (g : Placed Group) (o : Option Group) → slice_get groups i ≡ o → option_map (placed i) o ≡ Some g →
+    slice_get groups g.place ≡ Some g.value
+mapped_at groups i g None at e = absurd cc
+mapped_at groups i g (Some x) at e =
+    let same : placed i x ≡ g = cc in subst (λ (h : Placed Group). slice_get groups h.place ≡ Some h.value) same at
+
+keyed_at : (w : World) (o : Option ℕ) (g : Placed Group) → group_by w o ≡ Some g → slice_get w.groups g.place ≡ Some g.value
+keyed_at w None g e = absurd cc
+keyed_at w (Some n) g e = go (n == 0) e
+  where
+    go : (b : Bool) → cond b None (option_map (placed (n - 1)) (slice_get w.groups (n - 1))) ≡ Some g → slice_get w.groups g.place ≡ Some g.value
+    go true k = absurd cc
+    go false k = mapped_at w.groups (n - 1) g (slice_get w.groups (n - 1)) refl k
+
+request_keeps : (w : World) (host : ℕ) (r : RequestMsg) (order : Order) (o : Option (Placed Group)) → group_keyed w r.key ≡ o → EachOnce w.groups →
+    KeepsLink (request_turn w host r order o)
+request_keeps w host r order None at each = each
+request_keeps w host r order (Some g) at each =
+    let asked : Asked = asked_of r.contexts r.op r.body in
+    each_set w.groups g.place (ask g.value host (slice_index w.hosts host) asked).group each
+    (ask_once g.value host (slice_index w.hosts host) asked (each_got w.groups g.place g.value each (keyed_at w (number_in r.key) g at)))
+
+message_keeps : (w : World) (host : ℕ) (m : giop.Message) (order : Order) → EachOnce w.groups → KeepsLink (message_turn w host m order)
+message_keeps w host (sent.Request r) order each = request_keeps w host r order (group_keyed w r.key) refl each
+message_keeps w host (sent.Reply r) order each = tt
+message_keeps w host (sent.Cancel id) order each = each
+message_keeps w host (sent.LocateRequest id key) order each = each
+message_keeps w host (sent.LocateReply id status) order each = tt
+message_keeps w host sent.CloseConnection order each = tt
+message_keeps w host sent.MessageError order each = tt
+message_keeps w host (sent.Fragment id rest) order each = each
+
+continued_keeps : (turn : LinkTurn) (w : World) (rest : World → Linked) → EachOnce w.groups → KeepsLink turn →
+    ((next : World) → EachOnce next.groups → EachOnce (rest next).world.groups) → EachOnce (continued turn w rest).world.groups
+continued_keeps (Serves next lines calls) w rest each keeps behind = behind next keeps
+continued_keeps (Ends end) w rest each keeps behind = each
+
+session_keeps : (w : World) (host : ℕ) (ms : List Received) (end : LinkEnd) → EachOnce w.groups → EachOnce (session w host ms end).world.groups
+unfolding session
+session_keeps w host [] end each = each
+session_keeps w host (m ∷ ms) end each =
+    continued_keeps (message_turn w host m.0 m.1) w (λ next. session next host ms end) each (message_keeps w host m.0 m.1 each)
+    (λ next keeps. session_keeps next host ms end keeps)
+
 act_keeps : (w : World) (line : Line) → EachOnce w.groups → Keeps (act w line)
 act_keeps w (lines.Hosts count) each = unless_keeps (first_cause (hosts_causes w count)) 0 (Goes (with_hosts w count) [] 0) each
 act_keeps w (lines.Group name member) each =
@@ -157,6 +161,10 @@ act_keeps w (lines.Call client group op words) each = call_to_keeps w client _ o
 act_keeps w (lines.Deliver k) each = delivered_keeps w k (message_numbered w k) each
 act_keeps w (lines.Tick ticks) each = each
 act_keeps w (lines.Show name) each = show_keeps w _ each
+act_keeps w (lines.Inject host bytes) each =
+    let l : Linked = link_of w host bytes in
+    unless_keeps (first_cause (inject_causes w host)) 0 (linked_turn l)
+    (judged_keeps l.world l.lines l.calls (session_keeps w host (stream bytes).messages (link_end (stream bytes).end) each))
 
 turn_keeps : (w : World) (turn : Turn) (rest : World → World) → EachOnce w.groups → Keeps turn →
     ((next : World) → EachOnce next.groups → EachOnce (rest next).groups) → EachOnce (or_stay w turn rest).groups

@@ -1,7 +1,8 @@
-pub mod Servant
-pub mod Group
-pub mod Kept
+pub mod Printed
 pub mod World
+pub mod Links
+pub mod Acts
+pub mod Serving
 pub mod Sound
 pub mod Standing
 pub mod Once

@@ -3,8 +3,9 @@ use Rattle.std.specs.Prelude.{List, [], ◌∷◌}
 use Rattle.std.specs.List.{AllByRecursion}
 use Rattle.ft_base.specs.Journal.{AtMostOnce}
 use Rattle.fault_script.specs.declared.lines.Line.{Line}
-use Rattle.ft_world.specs.Group.{Group}
-use Rattle.ft_world.specs.World.{Turn, World, Goes, Refused, act}
+use Rattle.group_core.specs.Group.{Group}
+use Rattle.ft_world.specs.World.{Turn, World, Goes, Refused}
+use Rattle.ft_world.specs.Acts.{act}
 
 -- the world after some lines, up to the first that is refused
 abbrev pub or_stay : World → Turn → (World → World) → World

@@ -8,8 +8,6 @@ use Rattle.ft_base.specs.declared.numbers.Retention.{Retention}
 use Rattle.ft_base.specs.declared.numbers.Tick.{Tick}
 use Rattle.ft_base.specs.declared.numbers.Version.{Version}
 use Rattle.fault_script.specs.Arguments.{call_words_of}
-use Rattle.fault_script.specs.declared.lines.Line.{Line}
-use Rattle.fault_script.specs.declared.lines.Line.TheVariants as lines
 use Rattle.fault_script.specs.declared.lines.LimitName.TheVariants as limits
 use Rattle.fault_script.specs.declared.lines.LineFault.{LineFault}
 use Rattle.fault_script.specs.declared.lines.LineFault.TheVariants.{Unknown, Again, Limit}
@@ -17,8 +15,9 @@ use Rattle.fault_script.specs.declared.arguments.Said.{Said}
 use Rattle.ft_report.specs.declared.reports.ReportLine.{ReportLine}
 use Rattle.ft_report.specs.declared.reports.ReportLine.TheVariants as reports
 use Rattle.ft_report.specs.declared.reports.Role.TheVariants.{Primary}
-use Rattle.ft_world.specs.Servant.{machine, opening}
-use Rattle.ft_world.specs.Group.{Group, Served, serve, shown}
+use Rattle.group_core.specs.Servant.{machine, opening}
+use Rattle.group_core.specs.Group.{Group, Served, serve}
+use Rattle.ft_world.specs.Printed.{shown}
 use Rattle.ft_world.specs.declared.clients.Client.{Client}
 use Rattle.ft_world.specs.declared.messages.Attempt.{Attempt}
 use Rattle.ft_world.specs.declared.messages.Reply.{Reply}
@@ -229,25 +228,25 @@ abbrev pub call_line : World → List ℕ → List ℕ → List ℕ → List (Li
 call_line w client group op words = call_to w client (group_named w group) op words
 
 -- `deliver K`
-abbrev pub reply_of : Attempt → Served → Reply
-reply_of a served = record {
+abbrev pub reply_of : Attempt → List ℕ → Served → Reply
+reply_of a group served = record {
   client = a.client;
   host = a.host;
   id = a.id;
-  shown = shown (machine.signature a.request.op) served.answer;
+  shown = shown group (machine.signature a.request.op) served.answer;
 }
 
-abbrev pub replied : World → Attempt → Served → World
-replied w a served = record w {
+abbrev pub replied : World → Attempt → List ℕ → Served → World
+replied w a group served = record w {
   groups = slice_set w.groups a.group served.group;
-  messages = w.messages ++ messages.Reply (reply_of a served) ∷ [];
+  messages = w.messages ++ messages.Reply (reply_of a group served) ∷ [];
 }
 
 abbrev pub served_by : World → Attempt → Group → Client → Served → Turn
 served_by w a g c served =
-    judged (replied w a served)
+    judged (replied w a g.name served)
     (reports.At a.host g.name served.decision
-    ∷ reports.Reply (length w.messages + 1) a.host c.name a.id (reply_of a served).shown ∷ []) served.calls
+    ∷ reports.Reply (length w.messages + 1) a.host c.name a.id (reply_of a g.name served).shown ∷ []) served.calls
 
 abbrev pub arrives_of : World → Attempt → Option Group → Option Client → Turn
 arrives_of w a None c = Goes w [] 0
@@ -298,16 +297,6 @@ show_found w (Some g) = Goes w (shown_group g.value) 0
 
 abbrev pub show_line : World → List ℕ → Turn
 show_line w name = show_found w (group_named w name)
-
--- what a line does, a row for each
-abbrev pub act : World → Line → Turn
-act w (lines.Hosts count) = hosts_line w count
-act w (lines.Group name member) = group_line w name member
-act w (lines.Client name) = client_line w name
-act w (lines.Call client group op words) = call_line w client group op words
-act w (lines.Deliver k) = deliver_line w k
-act w (lines.Tick ticks) = tick_line w ticks
-act w (lines.Show name) = show_line w name
 
 -- the servant calls of a turn
 abbrev pub calls_of : Turn → ℕ

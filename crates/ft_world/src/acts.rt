@@ -1,14 +1,15 @@
 ghost use Rattle.std.specs.Prelude.{◌≡◌, ℕ, ◌+◌, ◌<◌, ◌≤◌, ◌^◌, [], ◌∷◌, IfOk, OnOk, Some, slice_get};
-ghost use Rattle.ft_world.specs.Group.{Group};
-ghost use Rattle.ft_world.specs.World.{World, act, client_line, group_line, hosts_line, show_line, shown_group, tick_line};
+ghost use Rattle.group_core.specs.Group.{Group};
+ghost use Rattle.ft_world.specs.World.{World, client_line, group_line, hosts_line, show_line, shown_group, tick_line};
+ghost use Rattle.ft_world.specs.Acts.{act};
 ghost use Rattle.ft_world.specs.Sound.{Answered, Did};
 
 use crate::clients::Client;
-use crate::groups::Group;
 use crate::worlds::World;
 use fault_script::{LimitName, Line, LineFault};
 use ft_base::{GroupId, HostNo, Members, Name, NoMemory, Steps, Version};
 use ft_report::{ReportLine, ReportLines, Role};
+use group_core::Group;
 use std::alloc::Global;
 use std::sync::ledger::Ledger;
 
@@ -173,6 +174,7 @@ impl World {
             Line::Deliver(number) => self.deliver_line(number, steps),
             Line::Tick(ticks) => self.tick_line(ticks),
             Line::Show(name) => self.show_line(&name),
+            Line::Inject { host, bytes } => self.inject_line(host, &bytes, steps),
         }
     }
 }

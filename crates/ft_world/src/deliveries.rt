@@ -1,7 +1,8 @@
 ghost use Rattle.std.specs.Prelude.{◌≡◌, ℕ, ◌+◌, ◌<◌, ◌≤◌, ◌^◌, ◌++◌, [], ◌∷◌, IfOk, OnOk, Some, length, slice_get};
 ghost use Rattle.ft_base.specs.declared.requests.Signature.{Signature};
-ghost use Rattle.ft_world.specs.Servant.{machine};
-ghost use Rattle.ft_world.specs.Group.{Group, IsAnswer, shown};
+ghost use Rattle.group_core.specs.Servant.{machine};
+ghost use Rattle.group_core.specs.Group.{Group, IsAnswer};
+ghost use Rattle.ft_world.specs.Printed.{shown, shown_outcome};
 ghost use Rattle.ft_world.specs.World.{World, arrives_of, deliver_line, heard_by, is_waiting_for, judged};
 ghost use Rattle.ft_world.specs.Sound.{AnsweredAfter, Answered, Did, IsRouted};
 ghost use Rattle.ft_world.specs.declared.clients.Client.{Client};
@@ -24,13 +25,13 @@ struct Served {
     decision: Decision,
 }
 
-fn shown_value(
+fn shown_outcome(
     alloc: Global,
     signature: Option<Signature>,
     outcome: Outcome,
 ) -> Result<Shown, NoMemory>
     requires { IsAnswer signature (Answer.Done outcome) }
-    ensures { IfOk result (λ printed. printed ≡ shown signature (Answer.Done outcome)) }
+    ensures { IfOk result (λ printed. printed ≡ shown_outcome signature outcome) }
 {
     match outcome {
         Outcome::Value(value) => {
@@ -45,18 +46,27 @@ fn shown_value(
     }
 }
 
-// An answer as it is printed.
+// A group's answer as it is printed.
 fn shown_answer(
     alloc: Global,
+    group: &Name,
     signature: Option<Signature>,
     answer: Answer,
 ) -> Result<Shown, NoMemory>
     requires { IsAnswer signature answer }
-    ensures { IfOk result (λ printed. printed ≡ shown signature answer) }
+    ensures { IfOk result (λ printed. printed ≡ shown group.now signature answer) }
 {
     match answer {
-        Answer::Done(outcome) => shown_value(alloc, signature, outcome),
+        Answer::Done(outcome) => shown_outcome(alloc, signature, outcome),
         Answer::System(fault) => Ok(Shown::System(fault)),
+        Answer::Forward(version) => {
+            let group = group.copy(alloc)?;
+            Ok(Shown::Forward { group, version })
+        }
+        Answer::ForwardPerm(version) => {
+            let group = group.copy(alloc)?;
+            Ok(Shown::ForwardPerm { group, version })
+        }
     }
 }
 
@@ -196,7 +206,7 @@ impl World {
             Ok(served) => served,
             Err(NoMemory) => return Err(LineFault::NoMemory),
         };
-        let shown = match shown_answer(alloc, signature, served.answer) {
+        let shown = match shown_answer(alloc, &group_name, signature, served.answer) {
             Ok(shown) => shown,
             Err(NoMemory) => return Err(LineFault::NoMemory),
         };

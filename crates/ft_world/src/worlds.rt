@@ -2,16 +2,19 @@ ghost use Rattle.std.specs.Prelude.{◌≡◌, ℕ, ◌+◌, All, ◌*◌, ◌<�
 ghost use Rattle.std.specs.List.{list_any};
 ghost use Rattle.std.specs.Option.{ForSome};
 ghost use Rattle.std.specs.Str.{bytes_eq};
-ghost use Rattle.ft_world.specs.Servant.{machine};
-ghost use Rattle.ft_world.specs.Group.{Group, IsAnswer, MayServe, serve};
-ghost use Rattle.ft_world.specs.Kept.{IsCountedWithin, IsServed};
+ghost use Rattle.group_core.specs.Servant.{machine};
+ghost use Rattle.group_core.specs.Asked.{IsShortBody};
+ghost use Rattle.group_core.specs.Group.{Group, IsAnswer, MayServe, ask, serve, signature_asked};
+ghost use Rattle.group_core.specs.Kept.{IsCountedWithin, IsServed};
 ghost use Rattle.ft_world.specs.World.{World, call_closed, call_opened, client_named, empty, found, group_named, is_named, is_there, message_numbered, new_client, new_group, totals_of};
+ghost use Rattle.ft_world.specs.Links.{group_numbered};
+ghost use Rattle.ft_world.specs.Serving.{AskFailsAt, IsAskedAt};
 ghost use Rattle.ft_world.specs.Sound.{FailsAt, HasSent, IsServedAt, IsPlace, IsRouted, IsSound};
 
 use crate::clients::Client;
-use crate::groups::{Group, Served};
 use crate::messages::Message;
 use ft_base::{HostNo, Name, NoMemory, Request, Steps, Tick};
+use group_core::{Asked, Group, Served};
 use std::alloc::Global;
 use std::marker::Model;
 use std::sync::ledger::Ledger;
@@ -164,6 +167,22 @@ impl World {
         group_place(self.groups.as_slice(), name)
     }
 
+    /// The place of the group with this number, from 1.
+    #[tactic(auto, using(crate::proofs::PlaceLemmas::numbered_here, crate::proofs::PlaceLemmas::numbered_none))]
+    pub(crate) fn numbered_place(&self, number: u64) -> Option<usize>
+        ensures { IsPlace (group_numbered self.now number) self.now.groups result }
+    {
+        if number == 0 {
+            return None;
+        }
+        let place = (number - 1) as usize;
+        if place < self.groups.len() {
+            Some(place)
+        } else {
+            None
+        }
+    }
+
     pub(crate) fn client_place(&self, name: &Name) -> Option<usize>
         ensures { IsPlace (client_named self.now name.now) self.now.clients result }
     {
@@ -282,6 +301,26 @@ impl World {
         let alloc = *self.messages.allocator();
         let group = &mut self.groups[place];
         group.serve(alloc, clock, request, steps)
+    }
+
+    /// A message comes to a host, for the group at this place.
+    pub(crate) fn ask<L: Ledger>(
+        &mut self,
+        place: usize,
+        host: HostNo,
+        clock: Tick,
+        asked: Asked,
+        steps: &mut Steps<L>,
+    ) -> Result<Served, NoMemory>
+        requires within { place < length self.old.groups }
+        requires short { IsShortBody asked.body }
+        ensures served { IfOk result (λ served. IsAskedAt place host.0 clock.0 asked self.old served self.new steps.old steps.new) }
+        ensures given { IfOk result (λ served. IsAnswer (signature_asked asked.op) served.answer) }
+        ensures failed { OnErr result (AskFailsAt place host.0 clock.0 asked self.old steps.old steps.new) }
+    {
+        let alloc = *self.messages.allocator();
+        let group = &mut self.groups[place];
+        group.ask(alloc, host, clock, asked, steps)
     }
 
     /// How many requests all groups have accepted.

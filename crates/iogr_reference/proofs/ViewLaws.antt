@@ -27,7 +27,7 @@ use Rattle.iogr_reference.proofs.Codecs.{iiop_codec, group_tag_codec}
 use Rattle.iogr_reference.proofs.GroupLemmas.{iiops_of-none, iiops_of-cons}
 
 -- what is encapsulated is read inside
-value_back : {X : Type 0} (f : Format CdrWhy X) → IsCodec Short f → (x : X) → f.Valid x → value_inside f (encapsulated f x) ≡ Ok x
+pub value_back : {X : Type 0} (f : Format CdrWhy X) → IsCodec Short f → (x : X) → f.Valid x → value_inside f (encapsulated f x) ≡ Ok x
 value_back {X = X} f law x h =
     ap (λ (r : Read CdrWhy X). r >>= λ y. Ok y.0) ((inside_codec f law).again (encapsulated f x) x (inside_written f law Big x h))
 

@@ -36,6 +36,14 @@ primary_component_tag = 28
 abbrev pub value_inside : {X : Type 0} → Format CdrWhy X → List ℕ → Result X (Fault CdrWhy)
 value_inside f content = inside f content >>= λ y. Ok y.0
 
+abbrev pub key_inside : Result Iiop (Fault CdrWhy) → Option (List ℕ)
+key_inside (Ok x) = Some x.key
+key_inside (Err wrong) = None
+
+-- the object key of an IIOP profile, where its content can be read
+abbrev pub profile_key : Profile → Option (List ℕ)
+profile_key p = if p.tag == iiop_tag then key_inside (value_inside iiop p.content) else None
+
 -- the content of the first component with this tag
 abbrev pub content_of : ℕ → List Component → Option (List ℕ)
 content_of tag [] = None

@@ -1,14 +1,16 @@
 -- References as texts: `IOR:`, and the hexadecimal digits of an encapsulation. (GIOP chapter,
 -- "Stringified object references".)
-use Rattle.std.specs.Prelude.{◌≡◌, ℕ, ◌==◌, ◌&&◌, ◌||◌, Bool, false, not, if◌then◌else◌, List, [], ◌∷◌, ◌++◌, length, drop, position, codes, Option, Some, None, Result, Ok, Err}
+use Rattle.std.specs.Prelude.{◌≡◌, ℕ, ◌<◌, ◌^◌, ◌==◌, ◌&&◌, ◌||◌, Bool, false, not, if◌then◌else◌, List, [], ◌∷◌, ◌++◌, length, drop, position, codes, Option, Some, None, Result, Ok, Err}
+use Rattle.std.specs.List.{All}
 use Rattle.hex.specs.Hex.{encode_lower, decode_of, is_hex_digit}
 use Rattle.hex.specs.declared.error.FromHexError.{FromHexError}
 use Rattle.cdr_codec.specs.declared.faults.CdrWhy.{CdrWhy}
 use Rattle.cdr_codec.specs.Reading.{Fault, ◌>>=◌}
 use Rattle.iogr_reference.specs.declared.references.Ior.{Ior}
+use Rattle.iogr_reference.specs.declared.references.Profile.{Profile}
 use Rattle.iogr_reference.specs.declared.faults.TextFault.{TextFault}
 use Rattle.iogr_reference.specs.declared.faults.TextFault.TheVariants as texts
-use Rattle.iogr_reference.specs.Formats.{ior}
+use Rattle.iogr_reference.specs.Formats.{ior, IsWritable}
 use Rattle.iogr_reference.specs.Groups.{value_inside}
 use Rattle.iogr_reference.specs.Views.{encapsulated}
 
@@ -60,3 +62,22 @@ Answers view (Err texts.NoMemory) what = Unit {0}
 Answers view (Err (texts.Bad wrong)) what = what ≡ Err (texts.Bad wrong)
 Answers view (Err texts.NoPrefix) what = what ≡ Err texts.NoPrefix
 Answers view (Err (texts.Digits place)) what = what ≡ Err (texts.Digits place)
+
+-- ---- what a text says of a reference
+
+abbrev pub AreBytes : List ℕ → Type 0
+AreBytes xs = All (λ x. x < 256) xs
+
+-- the numbers of a profile fit
+pub record ProfileFits (p : Profile) : Type 0 where
+  pub tag : p.tag < 2 ^ 32
+  pub content : AreBytes p.content
+
+-- and those of a reference
+pub record ReferenceFits (r : Ior) : Type 0 where
+  pub type_id : AreBytes r.type_id
+  pub profiles : All ProfileFits r.profiles
+
+-- the text of a reference spells the reference
+abbrev pub TextsAreRead : Type 0
+TextsAreRead = (r : Ior) → IsWritable r → ReferenceFits r → ior_in_text (text_of r) ≡ Ok r

@@ -5,13 +5,13 @@ ghost use Rattle.cdr_codec.specs.Values.{boolean};
 ghost use Rattle.cdr_codec.specs.Calls.{Gives};
 ghost use Rattle.iogr_reference.specs.Faults.{ior_fault, Tells};
 ghost use Rattle.iogr_reference.specs.Formats.{component, components_at, iiop, group_tag, IsShort, AreShortComponents};
-ghost use Rattle.iogr_reference.specs.Groups.{group_component_tag, primary_component_tag, value_inside, content_of, tag_inside, truth_inside, mark_of};
+ghost use Rattle.iogr_reference.specs.Groups.{group_component_tag, primary_component_tag, value_inside, content_of, tag_inside, truth_inside, mark_of, profile_key};
 
 use crate::faults::IorFault;
 use crate::lists::Components;
-use crate::references::{Component, GroupTag, Iiop};
+use crate::references::{Component, GroupTag, Iiop, Profile};
 use cdr_codec::{CdrReader, open_encapsulation};
-use ft_base::{Bytes, GroupId, Version};
+use ft_base::{Bytes, GroupId, NoMemory, Version};
 use std::alloc::Global;
 
 /// The tag of an IIOP profile (GIOP chapter, `TAG_INTERNET_IOP`).
@@ -120,6 +120,22 @@ pub fn iiop_inside(alloc: Global, content: &[u8]) -> Result<Iiop, IorFault>
 {
     let mut reader = open_encapsulation(content)?;
     read_iiop(alloc, &mut reader)
+}
+
+/// The object key of an IIOP profile; None where the profile has another tag, or its content can't be
+/// read.
+pub fn key_of(alloc: Global, tagged: &Profile) -> Result<Option<Bytes>, NoMemory>
+    requires { IsShort tagged.now.content }
+    ensures { IfOk result (λ key. key ≡ profile_key tagged.now) }
+{
+    if tagged.tag != IIOP_TAG {
+        return Ok(None);
+    }
+    match iiop_inside(alloc, tagged.content.bytes()) {
+        Ok(iiop) => Ok(Some(iiop.key)),
+        Err(IorFault::Bad(_)) => Ok(None),
+        Err(IorFault::NoMemory) => Err(NoMemory),
+    }
 }
 
 fn group_tag_inside(alloc: Global, content: &[u8]) -> Result<GroupTag, IorFault>

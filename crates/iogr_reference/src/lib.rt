@@ -18,10 +18,10 @@ mod writing;
 
 pub use faults::{IorFault, RefFault, TextFault};
 pub use groups::group_ref_of;
-pub use insides::{GROUP_TAG, IIOP_TAG, PRIMARY_TAG};
-pub use laws::views_are_named;
+pub use insides::{GROUP_TAG, IIOP_TAG, PRIMARY_TAG, key_of};
+pub use laws::{texts_are_read, views_are_named};
 pub use lists::{Components, IiopList, PROFILE_LIMIT, Ports, Profiles};
-pub use reading::read_ior;
+pub use reading::{read_ior, read_profile};
 pub use references::{Component, GroupRef, GroupTag, Iiop, Ior, Profile};
 pub use texts::{from_text, to_text};
 pub use views::ref_of;

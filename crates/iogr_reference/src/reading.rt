@@ -12,7 +12,7 @@ use cdr_codec::CdrReader;
 use ft_base::Bytes;
 use std::alloc::Global;
 
-fn read_profile(alloc: Global, reader: &mut CdrReader) -> Result<Profile, IorFault>
+fn profile_in(alloc: Global, reader: &mut CdrReader) -> Result<Profile, IorFault>
     ensures read { Gives (λ p. p) ior_fault result (profile.read reader.old) reader.new }
     ensures short { IfOk result (λ p. IsShort p.content) }
 {
@@ -28,7 +28,7 @@ fn each_profile(alloc: Global, count: u32, reader: &mut CdrReader) -> Result<Vec
 {
     let mut profiles = Vec::new(alloc);
     for _ in 0..count {
-        let profile = read_profile(alloc, reader)?;
+        let profile = profile_in(alloc, reader)?;
         profiles.push(profile)?;
     }
     Ok(profiles)
@@ -53,7 +53,7 @@ pub fn ior_in(alloc: Global, reader: &mut CdrReader) -> Result<Ior, IorFault>
     Ok(Ior { type_id, profiles })
 }
 
-fn read_exactly(alloc: Global, reader: &mut CdrReader) -> Result<Ior, IorFault>
+fn read_whole_ior(alloc: Global, reader: &mut CdrReader) -> Result<Ior, IorFault>
     ensures read { Gives (λ i. i) ior_fault result (ior.read reader.old) reader.new }
     ensures short { IfOk result (λ i. AreShort i.profiles) }
     ensures left { OnErr result (reader.new ≡ reader.old) }
@@ -72,5 +72,27 @@ pub fn read_ior(alloc: Global, reader: &mut CdrReader) -> Result<Ior, IorFault>
     ensures read { Gives (λ i. i) ior_fault result (ior.read reader.old) reader.new }
     ensures short { IfOk result (λ i. AreShort i.profiles) }
 {
-    read_exactly(alloc, reader)
+    read_whole_ior(alloc, reader)
+}
+
+fn read_whole_profile(alloc: Global, reader: &mut CdrReader) -> Result<Profile, IorFault>
+    ensures read { Gives (λ p. p) ior_fault result (profile.read reader.old) reader.new }
+    ensures short { IfOk result (λ p. IsShort p.content) }
+    ensures left { OnErr result (reader.new ≡ reader.old) }
+{
+    let mut ahead = reader.again();
+    let profile = profile_in(alloc, &mut ahead)?;
+    *reader = ahead;
+    Ok(profile)
+}
+
+/// Reads one profile. The reader stays where it was after a fault.
+pub fn read_profile(alloc: Global, reader: &mut CdrReader) -> Result<Profile, IorFault>
+    ensures found { IfOk result (λ p. Took profile.Spelled reader.old (p, reader.new)) }
+    ensures refused { Refuses ior_fault result (IsNowhere profile.Spelled reader.old) }
+    ensures left { OnErr result (reader.new ≡ reader.old) }
+    ensures read { Gives (λ p. p) ior_fault result (profile.read reader.old) reader.new }
+    ensures short { IfOk result (λ p. IsShort p.content) }
+{
+    read_whole_profile(alloc, reader)
 }

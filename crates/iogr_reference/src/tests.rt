@@ -2,7 +2,8 @@ ghost use Rattle.std.specs.Prelude.{◌<◌, ◌^◌, length, IfOk};
 ghost use Rattle.iogr_reference.specs.Formats.{IsWritable};
 
 use crate::{
-    Ior, Ports, RefFault, TextFault, from_text, group_ref_of, read_ior, ref_of, to_text, write_ior,
+    Ior, IorFault, Ports, Profile, RefFault, TextFault, from_text, group_ref_of, key_of, read_ior,
+    read_profile, ref_of, to_text, write_ior,
 };
 use cdr_codec::{CdrReader, CdrWriter, Order};
 use ft_base::{Bytes, GroupId, HostNo, Members, Name, NoMemory, Version, View};
@@ -208,4 +209,47 @@ fn a_refused_read_leaves_the_reader(rt: HostRuntime) {
     assert!(rt; read_ior(alloc, &mut reader).is_err());
     assert_eq!(rt; reader.place(), 0);
     assert_eq!(rt; reader.rest().len(), 16);
+}
+
+// A profile of another tag, and then one that is too short.
+#[test]
+fn one_profile_is_read(rt: HostRuntime) {
+    let alloc = rt.alloc();
+    let input = b"\0\0\0\x01\0\0\0\x03abc?\0\0\0\0\0\0\0\x02a";
+    let mut reader = CdrReader::new(Order::Big, 0, input);
+    match read_profile(alloc, &mut reader) {
+        Ok(first) => {
+            assert_eq!(rt; first.tag, 1);
+            assert!(rt; first.content.bytes() == b"abc".as_slice());
+        }
+        Err(_) => assert!(rt; false, "no profile"),
+    }
+    assert_eq!(rt; reader.place(), 11);
+    match read_profile(alloc, &mut reader) {
+        Err(IorFault::Bad(fault)) => assert_eq!(rt; fault.place, 16),
+        _ => assert!(rt; false, "another answer"),
+    }
+    assert_eq!(rt; reader.place(), 11);
+}
+
+fn key_in(alloc: Global, tag: u32, content: &[u8]) -> Result<Option<Bytes>, NoMemory>
+    requires { length content.now < 1000 }
+{
+    let content = Bytes::of(alloc, content)?;
+    key_of(alloc, &Profile { tag, content })
+}
+
+// A profile of IIOP 1.0, and one that ends inside its key.
+#[test]
+fn the_key_of_a_profile(rt: HostRuntime) -> Result<(), NoMemory> {
+    let alloc = rt.alloc();
+    let content = b"\0\x01\0\0\0\0\0\x02h\0\x07\xd0\0\0\0\x03key".as_slice();
+    match key_in(alloc, 0, content)? {
+        Some(key) => assert!(rt; key.bytes() == b"key".as_slice()),
+        None => assert!(rt; false, "no key"),
+    }
+    assert!(rt; key_in(alloc, 1, content)?.is_none());
+    assert!(rt; key_in(alloc, 0, &content[..18])?.is_none());
+    assert!(rt; key_in(alloc, 0, b"")?.is_none());
+    Ok(())
 }

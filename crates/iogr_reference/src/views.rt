@@ -97,7 +97,7 @@ fn components_for(
     Ok(components)
 }
 
-fn key_of(alloc: Global, group: GroupId) -> Result<Vec<u8>, NoMemory>
+fn group_key(alloc: Global, group: GroupId) -> Result<Vec<u8>, NoMemory>
     ensures key { IfOk result (λ key. key.items ≡ object_key group) }
     ensures short { IfOk result (λ key. length key.items ≡ 12) }
 {
@@ -165,7 +165,7 @@ fn member_bytes(
     ensures short { IfOk result IsShort }
 {
     let components = components_for(alloc, group, version, is_primary)?;
-    let key = key_of(alloc, group)?;
+    let key = group_key(alloc, group)?;
     let mut writer = begin(alloc)?;
     write_member(port, key.as_slice(), components.as_slice(), &mut writer)?;
     Ok(writer.finish())

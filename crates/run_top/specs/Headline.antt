@@ -6,7 +6,9 @@ use Rattle.ft_outside.specs.Outside.{Rose}
 use Rattle.fault_script.specs.Faults.{fault_text}
 use Rattle.fault_script.specs.declared.lines.LineFault.{LineFault}
 use Rattle.ft_world.specs.World.{empty}
-use Rattle.run_top.specs.Runs.{Ran, run}
+use Rattle.run_top.specs.Feeds.{Gained}
+use Rattle.run_top.specs.Runs.{Ran, run, runs}
+use Rattle.run_top.specs.Scripts.{whole_lines}
 use Rattle.run_top.specs.Playing.{rules}
 
 pub record Run : Type 0 where
@@ -70,3 +72,19 @@ pub record IfFault (status : ℕ) (P : List ℕ → Type 0) : Type 0 where
   pub read : status ≡ 4 → P (codes "ftc: read fault\n")
   pub written : status ≡ 5 → P (codes "ftc: write fault\n")
   pub memory : status ≡ 6 → P no_memory_text
+
+-- the run of those lines of a script that have their LF
+abbrev pub whole_run : List ℕ → Ran LineFault
+whole_run bytes = runs rules empty 1 0 (whole_lines bytes)
+
+-- a sink that tells what it holds gained a front of this output
+abbrev pub GainedFront : Option (List ℕ) → Option (List ℕ) → List ℕ → Type 0
+GainedFront before holds out = (front : List ℕ) × (tail : List ℕ) × (out ≡ front ++ tail) × Gained before holds front
+
+-- what holds where the source failed while it told what it has left
+abbrev pub IfUnread : ℕ → Option (List ℕ) → Type 0 → Type 0
+IfUnread status told P = status ≡ 4 → IfSome told (λ _. P)
+
+-- what holds where the run stopped for a write or for memory, of a source that tells what it has left
+abbrev pub IfStopped : ℕ → Option (List ℕ) → Type 0 → Type 0
+IfStopped status told P = (status ≡ 5) ⊎ (status ≡ 6) → IfSome told (λ _. P)

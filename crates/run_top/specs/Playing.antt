@@ -6,7 +6,8 @@ use Rattle.fault_script.specs.declared.lines.LimitName.TheVariants.{Script}
 use Rattle.fault_script.specs.declared.lines.LineFault.{LineFault}
 use Rattle.fault_script.specs.declared.lines.LineFault.TheVariants.{Limit}
 use Rattle.ft_report.specs.Report.{rendered}
-use Rattle.ft_world.specs.World.{World, act}
+use Rattle.ft_world.specs.Acts.{act}
+use Rattle.ft_world.specs.World.{World}
 use Rattle.ft_world.specs.World as world
 use Rattle.fault_script.specs.declared.lines.LineFault.TheVariants as faults
 use Rattle.run_top.specs.Runs.{Rules, Turn, Goes, Stops}

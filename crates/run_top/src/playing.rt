@@ -39,7 +39,8 @@ fn refusal(why: LineFault) -> Acted<LineFault>
 
 impl Script {
     ghost use Rattle.std.specs.Prelude.{◌≡◌, ◌+◌, ◌^◌, ◌≤◌};
-    ghost use Rattle.ft_world.specs.World.{act, empty};
+    ghost use Rattle.ft_world.specs.Acts.{act};
+    ghost use Rattle.ft_world.specs.World.{empty};
     ghost use Rattle.run_top.specs.Feeds.{IfGoes, IsActed};
     ghost use Rattle.run_top.specs.Playing.{printed};
 

@@ -16,7 +16,21 @@ struct Row {
     err: &'static [u8],
 }
 
-const ROWS: [Row; 9] = [
+// A deposit, two links that are cut off, and one that asks for the balance in two fragments.
+const LINKS: &[u8] =
+    b"hosts 1\ngroup bank account cold 0\nclient ann\ncall ann bank deposit 5\ndeliver 1\ninject 0 47494f50010201002c0000\ninject 0 47494f50010201002c000000\ninject 0 47494f5001020300240000000700000003000000000000000c00000046544f4700000000000000010800000062616c6147494f50010201070c000000070000006e63650000000000\n";
+
+// What each line of `LINKS` that prints anything prints.
+const WRITES: [&[u8]; 6] = [
+    b"group bank 1\nview bank 1 members 0 primary 0\n",
+    b"msg 1 client ann to host 0 request 1\n",
+    b"at 0 bank append 0\nmsg 2 host 0 to client ann reply 1 value 5\n",
+    b"link malformed cut 11\n",
+    b"link malformed cut 12\n",
+    b"at 0 bank append 1\nbytes 47494f5001020101140000000700000000000000000000000500000000000000\nlink closed\n",
+];
+
+const ROWS: [Row; 12] = [
     Row {
         script: b"",
         status: 0,
@@ -63,6 +77,26 @@ const ROWS: [Row; 9] = [
         script: b"hosts 1\ngroup bank account cold 0\nclient ann\ntick 10\ncall ann bank deposit 1 ret=7 exp=10\ndeliver 1\ndeliver 2\ncall ann bank deposit 1 ret=7 exp=11\ndeliver 3\ndeliver 4\ncall ann bank deposit 1 ret=7 exp=12\ndeliver 5\ndeliver 6\ntick 1\ndeliver 5\n",
         status: 0,
         out: b"group bank 1\nview bank 1 members 0 primary 0\nmsg 1 client ann to host 0 request 1\nat 0 bank expired 10 10\nmsg 2 host 0 to client ann reply 1 system BAD_CONTEXT 1 no\ndone ann 1 system BAD_CONTEXT 1 no\nmsg 3 client ann to host 0 request 2\nat 0 bank append 0\nmsg 4 host 0 to client ann reply 2 value 1\ndone ann 2 value 1\nmsg 5 client ann to host 0 request 3\nat 0 bank other 0\nmsg 6 host 0 to client ann reply 3 system BAD_CONTEXT 2 no\ndone ann 3 system BAD_CONTEXT 2 no\nat 0 bank append 1\nmsg 7 host 0 to client ann reply 3 value 2\n",
+        err: b"",
+    },
+    Row {
+        script: LINKS,
+        status: 0,
+        out: b"group bank 1\nview bank 1 members 0 primary 0\nmsg 1 client ann to host 0 request 1\nat 0 bank append 0\nmsg 2 host 0 to client ann reply 1 value 5\nlink malformed cut 11\nlink malformed cut 12\nat 0 bank append 1\nbytes 47494f5001020101140000000700000000000000000000000500000000000000\nlink closed\n",
+        err: b"",
+    },
+    // A deposit as a message, big endian.
+    Row {
+        script: b"hosts 1\ngroup bank account cold 0\ninject 0 47494f5001020000000000340000000103000000000000000000000c46544f470000000000000001000000086465706f73697400000000000000000000000005\n",
+        status: 0,
+        out: b"group bank 1\nview bank 1 members 0 primary 0\nat 0 bank append 0\nbytes 47494f5001020001000000140000000100000000000000000000000000000005\nlink closed\n",
+        err: b"",
+    },
+    // Whether the group is here.
+    Row {
+        script: b"hosts 1\ngroup bank account cold 0\ninject 0 47494f50010200030000001800000005000000000000000c46544f470000000000000001\n",
+        status: 0,
+        out: b"group bank 1\nview bank 1 members 0 primary 0\nbytes 47494f5001020004000000080000000500000001\nlink closed\n",
         err: b"",
     },
     Row {
@@ -125,7 +159,22 @@ const REFUSALS: [(&[u8], &[u8]); 18] = [
     ),
 ];
 
-// The status, the output and the error text of a script, over a sink whose writes of these numbers fail.
+// The status, the output and the error text of a script, whose reads and writes of these numbers fail.
+fn run_over<L: Ledger>(
+    alloc: Global,
+    words: &[String],
+    script: &[u8],
+    reads: &[u64],
+    writes: &[u64],
+    steps: &mut Steps<L>,
+) -> Result<(u8, MemSink, MemSink), NoMemory> {
+    let mut input = MemSource::new(alloc, script, reads)?;
+    let mut out = MemSink::new(alloc, 10_000, writes)?;
+    let mut err = MemSink::new(alloc, 1_000, &[])?;
+    let status = ftc_run(alloc, words, &mut input, &mut out, &mut err, steps);
+    Ok((status, out, err))
+}
+
 fn run<L: Ledger>(
     alloc: Global,
     words: &[String],
@@ -133,11 +182,7 @@ fn run<L: Ledger>(
     fails: &[u64],
     steps: &mut Steps<L>,
 ) -> Result<(u8, MemSink, MemSink), NoMemory> {
-    let mut input = MemSource::new(alloc, script, &[])?;
-    let mut out = MemSink::new(alloc, 10_000, fails)?;
-    let mut err = MemSink::new(alloc, 1_000, &[])?;
-    let status = ftc_run(alloc, words, &mut input, &mut out, &mut err, steps);
-    Ok((status, out, err))
+    run_over(alloc, words, script, &[], fails, steps)
 }
 
 fn each_row<L: Ledger>(rt: &impl Abort, alloc: Global, blank: Blank) -> Result<(), NoMemory>
@@ -233,4 +278,46 @@ fn each_end<L: Ledger>(rt: &impl Abort, alloc: Global, blank: Blank) -> Result<(
 #[test]
 fn faults_and_words_have_their_status(rt: HostRuntime) -> Result<(), NoMemory> {
     each_end::<Brand>(&rt, rt.alloc(), Blank::new(1))
+}
+
+// The output of the first lines of `LINKS`.
+fn first_writes(alloc: Global, count: usize) -> Result<Vec<u8>, NoMemory> {
+    let mut text = Vec::new(alloc);
+    for write in WRITES.iter().take(count) {
+        text.extend_from_slice(*write)?;
+    }
+    Ok(text)
+}
+
+// Which reads and writes of `LINKS` fail, the status, and how many of its lines that print are out.
+const FAULTS: [(&[u64], &[u64], u8, usize); 8] = [
+    (&[1], &[], 4, 0),
+    (&[2], &[], 4, 6),
+    (&[], &[1], 5, 0),
+    (&[], &[2], 5, 1),
+    (&[], &[3], 5, 2),
+    (&[], &[4], 5, 3),
+    (&[], &[5], 5, 4),
+    (&[], &[6], 5, 5),
+];
+
+fn each_fault<L: Ledger>(rt: &impl Abort, alloc: Global, blank: Blank) -> Result<(), NoMemory>
+    requires name { blank.name ≡ L.name }
+    requires parts { blank.parts ≡ L.parts }
+    requires some { 0 < blank.parts }
+{
+    let mut steps = Steps::<L>::new(blank);
+    let words = vec![in alloc; String::from_str(alloc, "run")?]?;
+    for (reads, writes, wanted, count) in &FAULTS {
+        let (status, out, _) = run_over(alloc, words.as_slice(), LINKS, reads, writes, &mut steps)?;
+        let text = first_writes(alloc, *count)?;
+        assert_eq!(rt; out.bytes(), text.as_slice());
+        assert_eq!(rt; status, *wanted);
+    }
+    Ok(())
+}
+
+#[test]
+fn faults_leave_a_front_of_the_output(rt: HostRuntime) -> Result<(), NoMemory> {
+    each_fault::<Brand>(&rt, rt.alloc(), Blank::new(1))
 }

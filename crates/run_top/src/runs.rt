@@ -1,9 +1,9 @@
-ghost use Rattle.std.specs.Prelude.{◌≡◌, ◌≢◌, ◌+◌, ◌-◌, ◌^◌, ◌<◌, ◌↔◌, ◌⊎◌, ◌++◌, ◌==◌, if◌then◌else◌, [], ◌∷◌, codes, map, IfOk, IfSome, IsTrue, option_map, string_bytes};
+ghost use Rattle.std.specs.Prelude.{◌≡◌, ◌≢◌, ◌+◌, ◌-◌, ◌^◌, ◌<◌, ◌≤◌, ◌↔◌, ◌⊎◌, ◌++◌, ◌==◌, if◌then◌else◌, [], ◌∷◌, codes, map, IfOk, IfSome, IsTrue, option_map, string_bytes};
 ghost use Rattle.std.specs.String.{string_bytes};
 ghost use Rattle.ft_outside.specs.Outside.{Rose};
 ghost use Rattle.run_top.specs.Feeds.{Gained};
 ghost use Rattle.run_top.specs.Scripts.{bytes_read};
-ghost use Rattle.run_top.specs.Headline.{IfFault, IfRan, IsRun, IsSettled, IsStatus, IsTold, no_memory_text, refusal_text, script_run};
+ghost use Rattle.run_top.specs.Headline.{GainedFront, IfFault, IfRan, IfStopped, IfUnread, IsRun, IsSettled, IsStatus, IsTold, no_memory_text, refusal_text, script_run, whole_run};
 
 use crate::playing::Script;
 use crate::scripts::{Ended, run_script};
@@ -103,6 +103,19 @@ pub fn ftc_run<A: Source, B: Sink, E: Sink, L: Ledger>(
     ensures no_read_fault { result ≢ 4 → A.count input.new ≡ A.count input.old }
     ensures write_fault { result ≡ 5 → Rose (B.count out.old) (B.count out.new) }
     ensures no_write_fault { result ≢ 5 → B.count out.new ≡ B.count out.old }
+
+    // Where the source failed, what is out is the output of the lines that were read whole.
+    ensures whole_output { IfUnread result (A.left input.old) (Gained (B.holds out.old) (B.holds out.new)
+        (whole_run (bytes_read (A.left input.old) (A.left input.new))).out) }
+    ensures whole_calls { IfUnread result (A.left input.old) (steps.new ≡ steps.old +
+        (whole_run (bytes_read (A.left input.old) (A.left input.new))).calls) }
+
+    // Where the output failed or memory was wanted, what is out is a front of the run's output, and no more
+    // calls were made than the run has.
+    ensures front_output { IfStopped result (A.left input.old) (GainedFront (B.holds out.old) (B.holds out.new)
+        (script_run (bytes_read (A.left input.old) (A.left input.new))).out) }
+    ensures front_calls { IfStopped result (A.left input.old) (steps.new ≤ steps.old +
+        (script_run (bytes_read (A.left input.old) (A.left input.new))).calls) }
 
     // What the sink of errors is told otherwise, and that faulty words do nothing else.
     ensures fault_text { IfFault result (λ text.

@@ -1,5 +1,5 @@
 -- The account: a balance from 0 to 9,223,372,036,854,775,807, and what the operations make of it.
-use Rattle.std.specs.Prelude.{ℕ, ◌+◌, ◌-◌, ◌%◌, ◌^◌, Bool, nat_lt, if◌then◌else◌, ℤ, pos, negsuc, List, [], Option, Some, None, option_map, codes, replicate}
+use Rattle.std.specs.Prelude.{ℕ, ◌+◌, ◌-◌, ◌%◌, ◌^◌, ◌<◌, ◌≡◌, Bool, false, nat_lt, if◌then◌else◌, ℤ, pos, negsuc, List, [], Option, Some, None, option_map, codes, replicate}
 use Rattle.std.specs.Str.{bytes_eq}
 use Rattle.std.specs.Int.{cast_signed, w64}
 use Rattle.byteorder.specs.Endian.{big_bytes, big_number}
@@ -23,6 +23,11 @@ balance_of state = big_number 8 state
 -- these are the state bytes of some balance
 abbrev pub is_state : List ℕ → Bool
 is_state state = bytes_eq state (state_of (balance_of state))
+
+-- what bytes say: the balance of which they are the state bytes; none where they are no state
+abbrev pub Says : List ℕ → Option ℕ → Type 0
+Says bytes None = is_state bytes ≡ false
+Says bytes (Some balance) = (balance < 2 ^ 63) × (bytes ≡ state_of balance)
 
 -- the state of an account that opens: 8 bytes of 0
 abbrev pub opening_state : List ℕ
@@ -61,10 +66,13 @@ ran (Some Balance) balance args = (balance, told balance)
 abbrev pub step_of : ℕ → Request → ℕ × Outcome
 step_of balance request = ran (operation_of request.op) balance request.args
 
--- the account as a servant, over its state bytes
+-- the account as a servant, over its state bytes; an update is the later state itself, so that to take it
+-- twice is to take it once
 abbrev pub account_machine : Machine
 account_machine = record {
   signature = λ op. option_map signature_of (operation_of op);
   is_state = is_state;
   step = λ state request. let next = step_of (balance_of state) request in (state_of next.0, next.1);
+  delta = λ base later. later;
+  applied = λ state update. if is_state update then Some update else None;
 }

@@ -1,11 +1,12 @@
 -- The account keeps the laws of a servant.
-use Rattle.std.proofs.Common.{◌≡◌, ℕ, ◌+◌, ◌-◌, ◌%◌, ◌^◌, ◌<◌, Bool, true, false, nat_lt, if◌then◌else◌, ℤ, pos, negsuc, List, [], Option, Some, None, option_map, codes, refl, ap, sym, ◌∙◌, lit<, lit≤}
+use Rattle.std.proofs.Common.{◌≡◌, ℕ, ◌+◌, ◌-◌, ◌%◌, ◌^◌, ◌<◌, Bool, true, false, nat_lt, if◌then◌else◌, ℤ, pos, negsuc, List, [], ◌∷◌, Option, Some, None, option_map, codes, length, refl, ap, sym, subst, ◌∙◌, lit<, lit≤}
 use Rattle.std.proofs.Math.Nat.{lt_of_lt_of_le, lt_of_le_of_lt, mod-eq_of_lt, mod-mod, sub-le}
 use Rattle.std.proofs.lemmas.Bool.{ltb-true}
 use Rattle.std.proofs.lemmas.Nat.{mod_below}
 use Rattle.std.proofs.lemmas.Slice.Eq.{bytes_eq-Decides}
 use Rattle.byteorder.specs.Endian.{big_bytes}
-use Rattle.byteorder.specs.Numbers.{big_number-reads_back}
+use Rattle.byteorder.specs.Numbers.{big_number-reads_back, length-bytes_high_first}
+use Rattle.ft_base.specs.Journal.{Entry, after, AllFit}
 use Rattle.ft_base.specs.Canonical.{number_at}
 use Rattle.ft_base.specs.Machine.{Fits, FitsAs, IsGiven, IsGivenAs}
 use Rattle.ft_base.specs.declared.requests.Request.{Request}
@@ -38,10 +39,14 @@ has_state n =
 pub opens : state_of 0 ≡ opening_state
 opens = refl
 
+-- a state is the state bytes of the balance that it says
+pub state_is : (s : List ℕ) → is_state s ≡ true → s ≡ state_of (balance_of s)
+state_is s h = (bytes_eq-Decides s (state_of (balance_of s))).0 h
+
 -- the balance of a state is in range
 pub balance_in_range : (s : List ℕ) → is_state s ≡ true → balance_of s < 2 ^ 63
 balance_in_range s h =
-    let same : s ≡ state_of (balance_of s) = (bytes_eq-Decides s (state_of (balance_of s))).0 h in
+    let same : s ≡ state_of (balance_of s) = state_is s h in
     let read : balance_of s ≡ balance_of s % 2 ^ 63 = ap balance_of same ∙ balance_of-state_of (balance_of s) in
     rw read (below (balance_of s))
 
@@ -89,3 +94,43 @@ pub step_ran : (balance next : ℕ) (q : Request) (outcome : Outcome) → balanc
 step_ran balance next q outcome h e =
     let read : balance_of (state_of balance) ≡ balance = balance_of-state_of_small balance h in
     ap (λ b. (state_of (step_of b q).0, (step_of b q).1)) read ∙ ap (λ (p : ℕ × Outcome). (state_of p.0, p.1)) e
+
+-- a state has eight bytes
+pub eight : (s : List ℕ) → is_state s ≡ true → length s ≡ 8
+eight s h = ap length (state_is s h) ∙ length-bytes_high_first 8 (balance_of s % 2 ^ 63)
+
+pub sized : (k : ℕ) (s : List ℕ) → is_state s ≡ true → length s + 8 < 2 ^ 32
+sized k s h = rw (eight s h) (lit< tt)
+
+pub update_sized : (k : ℕ) (s t : List ℕ) → is_state s ≡ true → is_state t ≡ true
+    → length (account_machine.delta s t) + 8 < 2 ^ 32
+update_sized k s t from to = sized k t to
+
+-- a state is an update of every state
+pub takes : (s u : List ℕ) → is_state u ≡ true → account_machine.applied s u ≡ Some u
+takes s u h = ap (λ b. if b then Some u else None) h
+
+-- other bytes are none
+pub refuses : (s u : List ℕ) → is_state u ≡ false → account_machine.applied s u ≡ None
+refuses s u h = ap (λ b. if b then Some u else None) h
+
+-- an update leaves a state
+pub update_stays : (k : ℕ) (s u t : List ℕ) → is_state s ≡ true → account_machine.applied s u ≡ Some t → is_state t ≡ true
+update_stays k s u t state h =
+    let go : (b : Bool) → is_state u ≡ b → is_state t ≡ true =
+    elim [
+      | true ↦ λ e. subst (λ (x : List ℕ). is_state x ≡ true) (let same : u ≡ t = cc (takes s u e, h) in same) e
+      | false ↦ λ e. absurd (let wrong : ⊥ = cc (refuses s u e, h) in wrong)
+    ] in
+    go (is_state u) refl
+
+-- requests lead from a state to a state
+after_state : (s : List ℕ) (es : List Entry) → is_state s ≡ true → is_state (after account_machine s es) ≡ true
+unfolding after
+after_state s [] h = h
+after_state s (e ∷ es) h = after_state (account_machine.step s e.request).0 es (has_state (step_of (balance_of s) e.request).0)
+
+-- an update to a later state leads there
+pub updates : (k : ℕ) (s : List ℕ) (es : List Entry) → is_state s ≡ true → AllFit account_machine es
+    → account_machine.applied s (account_machine.delta s (after account_machine s es)) ≡ Some (after account_machine s es)
+updates k s es h fit = takes s (after account_machine s es) (after_state s es h)

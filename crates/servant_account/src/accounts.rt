@@ -2,8 +2,10 @@ ghost use Rattle.std.specs.Prelude.{◌≡◌, ◌<◌, ◌^◌, ◌≤ℤ◌, �
 ghost use Rattle.servant_account.specs.Account.{account_machine, state_of};
 ghost use Rattle.servant_account.specs.Laws as laws;
 
-use crate::operations::{Operation, number_bytes};
-use ft_base::{Bytes, Name, NoMemory, Outcome, Request, Servant, Signature, Steps};
+use crate::operations::{Operation, balance_in, number_bytes};
+use ft_base::{
+    Bytes, Name, NoMemory, Outcome, Request, Servant, Signature, StateFault, Steps, UpdateFault,
+};
 use std::alloc::Global;
 use std::marker::Model;
 use std::sync::ledger::Ledger;
@@ -77,9 +79,49 @@ impl Servant for Account {
         number_bytes(alloc, self.balance)
     }
 
+    #[tactic(auto, using(crate::proofs::States::said_is_state))]
+    fn set_state(&mut self, _alloc: Global, bytes: &Bytes) -> Result<(), StateFault> {
+        match balance_in(bytes) {
+            Some(balance) => {
+                self.balance = balance;
+                Ok(())
+            }
+            None => Err(StateFault::InvalidState),
+        }
+    }
+
+    fn get_update(&self, alloc: Global, _base: &Account) -> Result<Bytes, NoMemory> {
+        self.get_state(alloc)
+    }
+
+    #[tactic(auto, using(crate::proofs::States::said_is_taken, crate::proofs::States::unsaid_is_refused))]
+    fn set_update(&mut self, _alloc: Global, update: &Bytes) -> Result<(), UpdateFault> {
+        match balance_in(update) {
+            Some(later) => {
+                self.balance = later;
+                Ok(())
+            }
+            None => Err(UpdateFault::InvalidUpdate),
+        }
+    }
+
+    fn copy(&self, _alloc: Global) -> Result<Account, NoMemory> {
+        Ok(Account {
+            balance: self.balance,
+        })
+    }
+
     ghost has_state = { laws.has_state };
 
     ghost stays = { laws.stays };
 
     ghost gives = { laws.gives };
+
+    ghost sized = { laws.sized };
+
+    ghost update_sized = { laws.update_sized };
+
+    ghost update_stays = { laws.update_stays };
+
+    ghost updates = { laws.updates };
 }

@@ -1,14 +1,14 @@
 ghost use Rattle.std.specs.Prelude.{◌≡◌, ◌<◌, ◌^◌, ◌∷◌, [], None, Some, length, IfOk};
-ghost use Rattle.byteorder.specs.Endian.{big_bytes};
+ghost use Rattle.byteorder.specs.Endian.{big_bytes, big_number};
 ghost use Rattle.ft_base.specs.Canonical.{IsCanonical};
 ghost use Rattle.ft_base.specs.Machine.{FitsAs};
 ghost use Rattle.ft_base.specs.Text.{name_refusal};
 ghost use Rattle.ft_base.specs.declared.requests.Outcome.TheVariants.{User};
 ghost use Rattle.ft_base.specs.declared.requests.Par.TheVariants.{I64};
-ghost use Rattle.servant_account.specs.Account.{amount_of, deposited, ran, told, withdrawn};
+ghost use Rattle.servant_account.specs.Account.{Says, amount_of, deposited, ran, told, withdrawn};
 ghost use Rattle.servant_account.specs.Operations.{operation_of, signature_of};
 
-use byteorder::{BigEndian, ByteOrder};
+use cdr_codec::{CdrReader, CdrWriter, Order};
 use ft_base::{Bytes, Name, NameFault, NoMemory, Outcome, Par, Signature};
 use std::alloc::Global;
 
@@ -40,9 +40,38 @@ fn refusal(alloc: Global, exception: &[u8]) -> Result<Outcome, NoMemory>
 pub fn number_bytes(alloc: Global, number: u64) -> Result<Bytes, NoMemory>
     ensures { IfOk result (λ bytes. bytes ≡ big_bytes 8 number) }
 {
-    let mut bytes = [0u8; 8];
-    BigEndian::write_u64(&mut bytes, number);
-    Bytes::of(alloc, &bytes)
+    let mut writer = CdrWriter::new(alloc, Order::Big, 0);
+    writer.write_u64(number)?;
+    Ok(writer.finish())
+}
+
+/// The number in eight bytes, the highest first.
+#[tactic(auto, using(crate::proofs::States::number_read, crate::proofs::States::number_is_there))]
+fn number_in(bytes: &[u8]) -> u64
+    requires { length bytes.now ≡ 8 }
+    ensures { result ≡ big_number 8 bytes.now }
+{
+    let mut reader = CdrReader::new(Order::Big, 0, bytes);
+    match reader.read_u64() {
+        Ok(number) => number,
+        Err(_) => unreachable!(),
+    }
+}
+
+/// The balance that state bytes say: eight bytes, the highest first, whose highest bit is clear.
+#[tactic(auto, using(crate::proofs::States::no_state_by_length, crate::proofs::States::no_state_by_sign, crate::proofs::States::state_read))]
+pub fn balance_in(bytes: &Bytes) -> Option<u64>
+    ensures { Says bytes.now result }
+{
+    let digits = bytes.bytes();
+    if digits.len() != 8 {
+        return None;
+    }
+    let balance = number_in(digits);
+    if balance > LARGEST {
+        return None;
+    }
+    Some(balance)
 }
 
 fn tell(alloc: Global, balance: u64) -> Result<Outcome, NoMemory>
@@ -56,7 +85,7 @@ fn amount(args: &Bytes) -> i64
     requires { IsCanonical (I64 ∷ []) args.now }
     ensures { result ≡ amount_of args.now }
 {
-    BigEndian::read_i64(args.bytes())
+    number_in(args.bytes()).cast_signed()
 }
 
 fn deposit(alloc: Global, balance: u64, amount: i64) -> Result<(u64, Outcome), NoMemory>

@@ -5,7 +5,10 @@ ghost use Rattle.servant_account.specs.Operations.{operation_of, signature_of};
 
 use crate::accounts::Account;
 use crate::operations::{Operation, number_bytes};
-use ft_base::{Bytes, Name, NoMemory, Outcome, Request, Servant, Steps};
+use ft_base::{
+    Bytes, Name, NoMemory, Outcome, Request, Servant, StateFault, Steps, UpdateFault, move_state,
+    move_update,
+};
 use std::alloc::Global;
 use std::marker::Brand;
 use std::process::Abort;
@@ -129,13 +132,36 @@ fn each_row<L: Ledger>(
     Ok(())
 }
 
+// An account comes by one deposit, and by an update, to the state of another.
+fn each_move<L: Ledger>(
+    rt: &impl Abort,
+    alloc: Global,
+    steps: &mut Steps<L>,
+) -> Result<(), NoMemory> {
+    let base = Account::new(3);
+    let mut from = base.copy(alloc)?;
+    let request = request_of(alloc, Operation::Deposit, 6)?;
+    from.invoke(alloc, &request, steps)?;
+    let mut to = base.copy(alloc)?;
+    move_update(alloc, &from, &base, &mut to)?;
+    let nine = 9u64.to_be_bytes();
+    let state = to.get_state(alloc)?;
+    assert!(rt; state.bytes() == nine.as_slice(), "by the update");
+    let mut other = Account::new(1);
+    move_state(alloc, &from, &mut other)?;
+    let state = other.get_state(alloc)?;
+    assert!(rt; state.bytes() == nine.as_slice(), "by the state");
+    Ok(())
+}
+
 fn counted<L: Ledger>(rt: &impl Abort, alloc: Global, blank: Blank) -> Result<(), NoMemory>
     requires name { blank.name ≡ L.name }
     requires parts { blank.parts ≡ L.parts }
     requires some { 0 < blank.parts }
 {
     let mut steps = Steps::<L>::new(blank);
-    each_row(rt, alloc, &mut steps)
+    each_row(rt, alloc, &mut steps)?;
+    each_move(rt, alloc, &mut steps)
 }
 
 #[test]
@@ -155,6 +181,58 @@ fn signatures(rt: HostRuntime) -> Result<(), NoMemory> {
             u8::from(signature.first.is_some()) + u8::from(signature.second.is_some())
         });
         assert!(rt; found == Some(parameters), "{text}");
+    }
+    Ok(())
+}
+
+// Bytes, and whether they are the state of a balance.
+const STATES: [(&[u8], bool); 6] = [
+    (&[], false),
+    (&[0; 7], false),
+    (&[0; 9], false),
+    (&[0x80, 0, 0, 0, 0, 0, 0, 0], false),
+    (&[0x7f, 255, 255, 255, 255, 255, 255, 255], true),
+    (&[0, 0, 0, 0, 0, 0, 1, 2], true),
+];
+
+fn each_state(rt: &impl Abort, alloc: Global, text: &[u8], valid: bool) -> Result<(), NoMemory> {
+    let bytes = Bytes::of(alloc, text)?;
+    let left = if valid {
+        text
+    } else {
+        &[0, 0, 0, 0, 0, 0, 0, 5]
+    };
+    let mut account = Account::new(5);
+    let taken = account.set_state(alloc, &bytes);
+    assert!(rt;
+        taken
+            == if valid {
+                Ok(())
+            } else {
+                Err(StateFault::InvalidState)
+            }
+    );
+    let state = account.get_state(alloc)?;
+    assert!(rt; state.bytes() == left, "the state");
+    let mut account = Account::new(5);
+    let taken = account.set_update(alloc, &bytes);
+    assert!(rt;
+        taken
+            == if valid {
+                Ok(())
+            } else {
+                Err(UpdateFault::InvalidUpdate)
+            }
+    );
+    let state = account.get_state(alloc)?;
+    assert!(rt; state.bytes() == left, "the state after the update");
+    Ok(())
+}
+
+#[test]
+fn states(rt: HostRuntime) -> Result<(), NoMemory> {
+    for (text, valid) in &STATES {
+        each_state(&rt, rt.alloc(), text, *valid)?;
     }
     Ok(())
 }

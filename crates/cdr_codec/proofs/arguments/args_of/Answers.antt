@@ -10,3 +10,6 @@ returns-clause-refused c = is_no_body c.args.body.now (pars_of c.args.signature.
 
 pub returns-clause-place : goal.returns-clause-place
 returns-clause-place c = stops c.args.body.now (pars_of c.args.signature.now) c.args_in.result (rw c.bytes.ensures at c.args_in.ensures.exact)
+
+pub returns-clause-exact : goal.returns-clause-exact
+returns-clause-exact c = rw c.bytes.ensures at c.args_in.ensures.exact

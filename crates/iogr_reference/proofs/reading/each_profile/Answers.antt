@@ -18,7 +18,7 @@ returns-in_err-profile-clause-read c =
 pub loop-preserved : goal.loop-preserved
 loop-preserved c = record {
   read = rw c.in_ok-push.ensures.items
-      (goes_on profile.read c.loop.profiles.items c.args.count c.loop.counter c.loop.reader c.in_ok-profile.profile c.read_profile.new.reader
+      (goes_on profile.read c.loop.profiles.items c.args.count c.loop.counter c.loop.reader c.in_ok-profile.profile c.profile_in.new.reader
       (read_each profile.read c.args.count c.args.reader.now) (omega arith) c.in_ok-profile.ensures.read c.loop.invariant.read);
   short = rw c.in_ok-push.ensures.items
       (All-push (λ (p : Profile). IsShort p.content) c.loop.profiles.items c.in_ok-profile.profile c.loop.invariant.short c.in_ok-profile.ensures.short);

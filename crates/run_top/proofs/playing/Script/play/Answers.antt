@@ -1,6 +1,7 @@
 use Rattle.std.proofs.Common.{subst}
 use Rattle.ft_world.specs.Sound.{DidNot}
-use Rattle.ft_world.specs.World.{World, act}
+use Rattle.ft_world.specs.Acts.{act}
+use Rattle.ft_world.specs.World.{World}
 use Rattle.run_top.proofs.PlayingLemmas.{not_acted}
 use Rattle.run_top.proofs.playing.Script.play.Goals as goal
 

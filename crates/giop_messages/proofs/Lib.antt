@@ -1,0 +1,7 @@
+pub mod Codecs
+pub mod Lengths
+pub mod BodyLaws
+pub mod MessageLaws
+pub mod WritingSteps
+pub mod WritingLaws
+pub mod Examples

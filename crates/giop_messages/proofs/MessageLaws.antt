@@ -1,0 +1,211 @@
+-- What is read of bytes is a message that they spell, and each message that they spell is read.
+use Rattle.std.proofs.Common.{◌≡◌, ℕ, ◌+◌, ◌≤◌, Bool, true, false, cond, ltb, List, ◌++◌, length, take, drop, Result, Ok, Err, refl, sym, ap, subst, ◌∙◌, append_assoc, length-append, length-take-le, length-drop, take-append-drop, ltb-false, le-ltb, arith, Option, Some, None, IfOk}
+use Rattle.std.proofs.lemmas.List.{take_at, drop_at}
+use Rattle.cdr_codec.specs.declared.orders.Order.{Order}
+use Rattle.cdr_codec.specs.declared.orders.Order.TheVariants.{Big}
+use Rattle.cdr_codec.specs.declared.bodies.Raw.{Raw}
+use Rattle.cdr_codec.specs.Reading.{Reader, reader_at, Fault, ◌>>=◌}
+use Rattle.cdr_codec.specs.Formats.{Format}
+use Rattle.cdr_codec.specs.Calls.{OnFault, Refuses}
+use Rattle.cdr_codec.specs.Laws.{IsCodec}
+use Rattle.cdr_codec.proofs.Steps.{done, bind_ok, bind_goes, ok_is, err_ok}
+use Rattle.giop_messages.specs.declared.faults.Why.{Why}
+use Rattle.giop_messages.specs.declared.faults.Why.TheVariants as causes
+use Rattle.giop_messages.specs.declared.heads.Kind.{Kind}
+use Rattle.giop_messages.specs.declared.heads.Kind.TheVariants as kinds
+use Rattle.giop_messages.specs.declared.heads.Head.{Head}
+use Rattle.giop_messages.specs.declared.messages.Message.{Message}
+use Rattle.giop_messages.specs.declared.messages.Message.TheVariants as messages
+use Rattle.giop_messages.specs.declared.faults.ReadFault.{ReadFault}
+use Rattle.giop_messages.specs.Faults.{read_fault, FailsIn, Tells}
+use Rattle.giop_messages.specs.Heads.{order_in, head, header, head_in}
+use Rattle.giop_messages.specs.Fields.{request_id, request_head, reply_head, locate_request, locate_reply}
+use Rattle.giop_messages.specs.Messages.{kind_in, head_of_request, head_of_reply, SpellsBody, SpellsWithBody, SpellsFields, SpellsPayload, Spells, body_at, request_from, reply_from, payload_at, cut, payload_reader, behind, message_in}
+use Rattle.giop_messages.specs.Laws.{SpellsHead}
+use Rattle.giop_messages.proofs.Codecs.{head_codec, header_codec, request_id_codec, request_head_codec, reply_head_codec, locate_request_codec, locate_reply_codec}
+use Rattle.giop_messages.proofs.Lengths.{header_long}
+use Rattle.giop_messages.proofs.BodyLaws.{body_found, body_again}
+
+-- ---- the fields behind a header
+
+-- the message is of this type, and its fields are spelled
+record IsIn (kind : Kind) (order : Order) (m : Message) (payload : List ℕ) : Type 0 where
+  pub kind_is : kind ≡ kind_in m
+  pub fields_spelled : SpellsPayload order m payload
+
+with_body_found : {X : Type 0} (f : Format Why X) → IsCodec causes.Short f → (order : Order) (payload : List ℕ) (x : X × Reader)
+    → f.read (reader_at order 12 payload) ≡ Ok x → SpellsWithBody f.Spelled order x.0 (body_at x.1) payload
+with_body_found f law order payload x e =
+    let t = law.found (reader_at order 12 payload) x e in
+    let order-is : x.1.order ≡ order = ap (λ (s : Reader). s.order) t.moved.at_end in
+    let place-is : x.1.place ≡ 12 + length t.bytes = ap (λ (s : Reader). s.place) t.moved.at_end in
+    record {
+      front = t.bytes;
+      back = x.1.rest;
+      is = t.moved.is;
+      fields_spelled = t.spelled;
+      body_spelled = subst (λ (o : Order). SpellsBody o (12 + length t.bytes) (body_at x.1) x.1.rest) order-is
+          (subst (λ (n : ℕ). SpellsBody x.1.order n (body_at x.1) x.1.rest) place-is (body_found x.1));
+    }
+
+fields_found : {X : Type 0} (f : Format Why X) → IsCodec causes.Short f → (order : Order) (payload : List ℕ) (x : X × Reader)
+    → f.read (reader_at order 12 payload) ≡ Ok x → SpellsFields f.Spelled order x.0 payload
+fields_found f law order payload x e =
+    let t = law.found (reader_at order 12 payload) x e in
+    record { front = t.bytes; more = x.1.rest; is = t.moved.is; fields_spelled = t.spelled }
+
+payload_found : (kind : Kind) (order : Order) (payload : List ℕ) (m : Message) → payload_at kind (reader_at order 12 payload) ≡ Ok m → IsIn kind order m payload
+payload_found kinds.Request order payload m e =
+    let b = bind_ok (request_head.read (reader_at order 12 payload)) _ m e in
+    subst (λ (m : Message). IsIn kinds.Request order m payload) (ok_is (messages.Request (request_from b.0.0 (body_at b.0.1))) m b.2)
+    (record { kind_is = refl; fields_spelled = with_body_found request_head request_head_codec order payload b.0 b.1 })
+payload_found kinds.Reply order payload m e =
+    let b = bind_ok (reply_head.read (reader_at order 12 payload)) _ m e in
+    subst (λ (m : Message). IsIn kinds.Reply order m payload) (ok_is (messages.Reply (reply_from b.0.0 (body_at b.0.1))) m b.2)
+    (record { kind_is = refl; fields_spelled = with_body_found reply_head reply_head_codec order payload b.0 b.1 })
+payload_found kinds.CancelRequest order payload m e =
+    let b = bind_ok (request_id.read (reader_at order 12 payload)) _ m e in
+    subst (λ (m : Message). IsIn kinds.CancelRequest order m payload) (ok_is (messages.Cancel b.0.0) m b.2)
+    (record { kind_is = refl; fields_spelled = fields_found request_id request_id_codec order payload b.0 b.1 })
+payload_found kinds.LocateRequest order payload m e =
+    let b = bind_ok (locate_request.read (reader_at order 12 payload)) _ m e in
+    subst (λ (m : Message). IsIn kinds.LocateRequest order m payload) (ok_is (messages.LocateRequest b.0.0.0 b.0.0.1) m b.2)
+    (record { kind_is = refl; fields_spelled = fields_found locate_request locate_request_codec order payload b.0 b.1 })
+payload_found kinds.LocateReply order payload m e =
+    let b = bind_ok (locate_reply.read (reader_at order 12 payload)) _ m e in
+    subst (λ (m : Message). IsIn kinds.LocateReply order m payload) (ok_is (messages.LocateReply b.0.0.0 b.0.0.1) m b.2)
+    (record { kind_is = refl; fields_spelled = fields_found locate_reply locate_reply_codec order payload b.0 b.1 })
+payload_found kinds.CloseConnection order payload m e =
+    subst (λ (m : Message). IsIn kinds.CloseConnection order m payload) (ok_is messages.CloseConnection m e) (record { kind_is = refl; fields_spelled = tt })
+payload_found kinds.MessageError order payload m e =
+    subst (λ (m : Message). IsIn kinds.MessageError order m payload) (ok_is messages.MessageError m e) (record { kind_is = refl; fields_spelled = tt })
+payload_found kinds.Fragment order payload m e =
+    let b = bind_ok (request_id.read (reader_at order 12 payload)) _ m e in
+    let t = request_id_codec.found (reader_at order 12 payload) b.0 b.1 in
+    subst (λ (m : Message). IsIn kinds.Fragment order m payload) (ok_is (messages.Fragment b.0.0 b.0.1.rest) m b.2)
+    (record { kind_is = refl; fields_spelled = record { front = t.bytes; is = t.moved.is; id_spelled = t.spelled } })
+
+fields_again : {X Y : Type 0} (f : Format Why X) → IsCodec causes.Short f → (order : Order) (x : X) (front more payload : List ℕ) (next : X × Reader → Result Y (Fault Why)) (y : Result Y (Fault Why))
+    → payload ≡ front ++ more → f.Spelled order 12 x front → next (x, reader_at order (12 + length front) more) ≡ y
+    → (f.read (reader_at order 12 payload) >>= next) ≡ y
+fields_again f law order x front more payload next y is spelled goes =
+    bind_goes (f.read (reader_at order 12 payload)) next _ _ (ap (λ (l : List ℕ). f.read (reader_at order 12 l)) is ∙ law.again order 12 x front more spelled) goes
+
+payload_again : (m : Message) (order : Order) (payload : List ℕ) → SpellsPayload order m payload → payload_at (kind_in m) (reader_at order 12 payload) ≡ Ok m
+payload_again (messages.Request r) order payload s =
+    fields_again request_head request_head_codec order (head_of_request r) s.front s.back payload _ _ s.is s.fields_spelled
+    (ap (λ (body : Raw). done (messages.Request (request_from (head_of_request r) body))) (body_again order (12 + length s.front) r.body s.back s.body_spelled))
+payload_again (messages.Reply r) order payload s =
+    fields_again reply_head reply_head_codec order (head_of_reply r) s.front s.back payload _ _ s.is s.fields_spelled
+    (ap (λ (body : Raw). done (messages.Reply (reply_from (head_of_reply r) body))) (body_again order (12 + length s.front) r.body s.back s.body_spelled))
+payload_again (messages.Cancel id) order payload s = fields_again request_id request_id_codec order id s.front s.more payload _ _ s.is s.fields_spelled refl
+payload_again (messages.LocateRequest id key) order payload s = fields_again locate_request locate_request_codec order (id, key) s.front s.more payload _ _ s.is s.fields_spelled refl
+payload_again (messages.LocateReply id status) order payload s = fields_again locate_reply locate_reply_codec order (id, status) s.front s.more payload _ _ s.is s.fields_spelled refl
+payload_again messages.CloseConnection order payload s = refl
+payload_again messages.MessageError order payload s = refl
+payload_again (messages.Fragment id rest) order payload s = fields_again request_id request_id_codec order id s.front rest payload _ _ s.is s.id_spelled refl
+
+-- ---- the whole message
+
+unless_cut : {X : Type 0} (b : Bool) (wrong : Fault Why) (read : Result X (Fault Why)) (x : X) → cond b (Err wrong) read ≡ Ok x → (b ≡ false) × (read ≡ Ok x)
+unless_cut true wrong read x e = absurd (err_ok x wrong e)
+unless_cut false wrong read x e = (refl, e)
+
+goes_whole : {X : Type 0} (b : Bool) (wrong : Fault Why) (read : Result X (Fault Why)) (x : X) → b ≡ false → read ≡ Ok x → cond b (Err wrong) read ≡ Ok x
+goes_whole b wrong read x whole e = rw whole e
+
+abbrev with_order : Message → Order → Message × Order
+with_order m order = (m, order)
+
+abbrev head_with : ℕ → Kind → ℕ → Head
+head_with flags kind size = record { flags = flags; kind = kind; size = size }
+
+found_behind : (bytes front rest : List ℕ) (h : Head) (m : Message) (order : Order) → bytes ≡ front ++ rest → header.Spelled Big 0 h front
+    → behind bytes h ≡ Ok (with_order m order) → Spells bytes order m
+found_behind bytes front rest h m order is spelled e =
+    let twelve = header_long.long Big h front spelled in
+    let whole = unless_cut (ltb (length bytes) (12 + h.size)) (cut bytes) _ (with_order m order) e in
+    let enough : 12 + h.size ≤ length bytes = ltb-false _ _ whole.0 in
+    let payload = take h.size (drop 12 bytes) in
+    let b = bind_ok (payload_at h.kind (payload_reader h bytes)) (λ m. done (with_order m (order_in h.flags))) (with_order m order) whole.1 in
+    let same = ok_is (with_order b.0 (order_in h.flags)) (with_order m order) b.2 in
+    let i = subst (λ (m : Message). IsIn h.kind (order_in h.flags) m payload) (ap (λ (p : Message × Order). p.0) same) (payload_found h.kind (order_in h.flags) payload b.0 b.1) in
+    let order-is : order ≡ order_in h.flags = sym (ap (λ (p : Message × Order). p.1) same) in
+    let sized : length payload ≡ h.size = length-take-le h.size (drop 12 bytes) (omega (arith, length-drop 12 bytes)) in
+    let left : drop 12 bytes ≡ rest = ap (drop 12) is ∙ drop_at front rest 12 twelve in
+    record {
+      flags = h.flags;
+      front = front;
+      payload = payload;
+      more = drop h.size (drop 12 bytes);
+      is = is ∙ ap (λ (l : List ℕ). front ++ l) (sym left ∙ sym (take-append-drop h.size (drop 12 bytes)))
+          ∙ sym (append_assoc front payload (drop h.size (drop 12 bytes)));
+      ordered = order-is;
+      head_spelled = subst (λ (k : Kind). header.Spelled Big 0 (head_with h.flags k (length payload)) front) i.kind_is
+          (subst (λ (n : ℕ). header.Spelled Big 0 (head_with h.flags h.kind n) front) (sym sized) spelled);
+      fields_spelled = subst (λ (o : Order). SpellsPayload o m payload) (sym order-is) i.fields_spelled;
+    }
+
+-- what is read is spelled
+pub message_found : (bytes : List ℕ) (m : Message) (order : Order) → message_in bytes ≡ Ok (m, order) → Spells bytes order m
+message_found bytes m order e =
+    let whole = unless_cut (ltb (length bytes) 12) (cut bytes) _ (with_order m order) e in
+    let b = bind_ok (header.read (reader_at Big 0 bytes)) (λ h. behind bytes h.0) (with_order m order) whole.1 in
+    let t = header_codec.found (reader_at Big 0 bytes) b.0 b.1 in
+    found_behind bytes t.bytes b.0.1.rest b.0.0 m order t.moved.is t.spelled b.2
+
+-- what is spelled is read
+pub message_again : (bytes : List ℕ) (m : Message) (order : Order) → Spells bytes order m → message_in bytes ≡ Ok (m, order)
+message_again bytes m order s =
+    let h = head_with s.flags (kind_in m) (length s.payload) in
+    let twelve = header_long.long Big h s.front s.head_spelled in
+    let is : bytes ≡ s.front ++ (s.payload ++ s.more) = s.is ∙ append_assoc s.front s.payload s.more in
+    let len : length bytes ≡ 12 + length s.payload + length s.more = omega (arith, ap length is, length-append s.front (s.payload ++ s.more), length-append s.payload s.more) in
+    let payload-is : take (length s.payload) (drop 12 bytes) ≡ s.payload =
+    ap (λ (l : List ℕ). take (length s.payload) (drop 12 l)) is
+    ∙ ap (take (length s.payload)) (drop_at s.front (s.payload ++ s.more) 12 twelve)
+    ∙ take_at s.payload s.more (length s.payload) refl in
+    let fields : payload_at (kind_in m) (payload_reader h bytes) ≡ Ok m =
+    ap (λ (l : List ℕ). payload_at (kind_in m) (reader_at (order_in s.flags) 12 l)) payload-is
+    ∙ payload_again m (order_in s.flags) s.payload (subst (λ (o : Order). SpellsPayload o m s.payload) s.ordered s.fields_spelled) in
+    let behind-is : behind bytes h ≡ Ok (with_order m order) =
+    goes_whole (ltb (length bytes) (12 + length s.payload)) (cut bytes) _ (with_order m order) (le-ltb _ _ (omega arith))
+    (bind_goes (payload_at (kind_in m) (payload_reader h bytes)) (λ m. done (with_order m (order_in s.flags))) _ _ fields (ap (λ (o : Order). done (with_order m o)) (sym s.ordered))) in
+    let read : header.read (reader_at Big 0 bytes) ≡ Ok (h, reader_at Big (0 + length s.front) (s.payload ++ s.more)) =
+    ap (λ (l : List ℕ). header.read (reader_at Big 0 l)) is ∙ header_codec.again Big 0 h s.front (s.payload ++ s.more) s.head_spelled in
+    goes_whole (ltb (length bytes) 12) (cut bytes) _ (with_order m order) (le-ltb _ _ (omega arith))
+    (bind_goes (header.read (reader_at Big 0 bytes)) (λ h. behind bytes h.0) _ _ read behind-is)
+
+-- bytes spell one message at most
+pub spelled_once : (bytes : List ℕ) (m n : Message) (order other : Order) → Spells bytes order m → Spells bytes other n → (m ≡ n) × (order ≡ other)
+spelled_once bytes m n order other s t =
+    let same = ok_is (with_order m order) (with_order n other) (sym (message_again bytes m order s) ∙ message_again bytes n other t) in
+    (ap (λ (p : Message × Order). p.0) same, ap (λ (p : Message × Order). p.1) same)
+
+-- ---- headers
+
+pub head_found : (bytes : List ℕ) (h : Head) → head_in bytes ≡ Ok h → SpellsHead bytes h
+head_found bytes h e =
+    let b = bind_ok (head.read (reader_at Big 0 bytes)) (λ h. done h.0) h e in
+    let t = head_codec.found (reader_at Big 0 bytes) b.0 b.1 in
+    subst (SpellsHead bytes) (ok_is b.0.0 h b.2) (record { front = t.bytes; more = b.0.1.rest; is = t.moved.is; spelled = t.spelled })
+
+pub head_again : (bytes : List ℕ) (h : Head) → SpellsHead bytes h → head_in bytes ≡ Ok h
+head_again bytes h s =
+    bind_goes (head.read (reader_at Big 0 bytes)) (λ h. done h.0) _ _
+    (ap (λ (l : List ℕ). head.read (reader_at Big 0 l)) s.is ∙ head_codec.again Big 0 h s.front s.more s.spelled) refl
+
+-- ---- a call's answers
+
+pub is_found : (bytes : List ℕ) (result : Result (Message × Order) ReadFault) → Tells (λ m. m) result (message_in bytes) → IfOk result (λ m. Spells bytes m.1 m.0)
+is_found bytes (Ok m) h = message_found bytes m.0 m.1 h
+is_found bytes (Err e) h = tt
+
+nothing_spelled : (bytes : List ℕ) (o : Option (Fault Why)) → FailsIn o (message_in bytes) → OnFault o ((m : Message) (order : Order) → Spells bytes order m → ⊥)
+nothing_spelled bytes None h = tt
+nothing_spelled bytes (Some wrong) h = λ m order s. err_ok (with_order m order) wrong (sym h ∙ message_again bytes m order s)
+
+pub is_refused : (bytes : List ℕ) (result : Result (Message × Order) ReadFault) → Tells (λ m. m) result (message_in bytes)
+    → Refuses read_fault result ((m : Message) (order : Order) → Spells bytes order m → ⊥)
+is_refused bytes (Ok m) h = tt
+is_refused bytes (Err e) h = nothing_spelled bytes (read_fault e) h

@@ -1,0 +1,179 @@
+-- What is written spells its message, and is read back.
+use Rattle.std.proofs.Common.{◌≡◌, ℕ, ◌+◌, ◌<◌, ◌^◌, true, ltb, List, [], ◌∷◌, ◌++◌, length, Some, Result, Ok, Err, IfOk, refl, sym, ap, subst, ◌∙◌, append-nil, length-append, lt-ltb, lit<, arith}
+use Rattle.std.specs.List.{All, AllByRecursion}
+use Rattle.std.proofs.lemmas.List.Elements.{recursion_from_All}
+use Rattle.ft_base.specs.declared.memory.NoMemory.{NoMemory}
+use Rattle.cdr_codec.specs.declared.orders.Order.{Order}
+use Rattle.cdr_codec.specs.declared.orders.Order.TheVariants.{Big, Little}
+use Rattle.cdr_codec.specs.declared.bodies.Raw.{Raw}
+use Rattle.cdr_codec.specs.Formats.{Format}
+use Rattle.cdr_codec.specs.Laws.{IsCodec}
+use Rattle.cdr_codec.specs.Encapsulations.{order_sign}
+use Rattle.cdr_codec.proofs.ValueLaws.{text_valid}
+use Rattle.ft_contexts.specs.declared.lists.Context.{Context}
+use Rattle.giop_messages.specs.declared.faults.Why.{Why}
+use Rattle.giop_messages.specs.declared.faults.Why.TheVariants as causes
+use Rattle.giop_messages.specs.declared.heads.Kind.{Kind}
+use Rattle.giop_messages.specs.declared.heads.Kind.TheVariants as kinds
+use Rattle.giop_messages.specs.declared.heads.Head.{Head}
+use Rattle.giop_messages.specs.declared.messages.Message.{Message}
+use Rattle.giop_messages.specs.declared.messages.Message.TheVariants as messages
+use Rattle.giop_messages.specs.declared.messages.RequestMsg.{RequestMsg}
+use Rattle.giop_messages.specs.declared.messages.ReplyMsg.{ReplyMsg}
+use Rattle.giop_messages.specs.Heads.{kind, order_in, head, if_flags_fit, header}
+use Rattle.giop_messages.specs.Addresses.{address}
+use Rattle.giop_messages.specs.Fields.{request_id, context, contexts, reserved, request_head, below, reply_head, locate_request, locate_reply}
+use Rattle.giop_messages.specs.Messages.{kind_in, head_of_request, head_of_reply, SpellsWithBody, SpellsFields, SpellsPayload, Spells, message_in}
+use Rattle.giop_messages.specs.Writing.{padded_body, with_body, written_payload, written_message, IsBodyFor, IsRequest, IsReply, HasFields, Writable, IsNumberedRequest, IsNumberedReply, IsNumbered}
+use Rattle.giop_messages.proofs.Codecs.{header_codec, request_id_codec, request_head_codec, reply_head_codec, locate_request_codec, locate_reply_codec}
+use Rattle.giop_messages.proofs.BodyLaws.{body_spells}
+use Rattle.giop_messages.proofs.MessageLaws.{message_again}
+
+-- ---- what has a spelling
+
+each_valid : (cs : List Context) → AllByRecursion (λ (c : Context). c.id < 2 ^ 32) cs → AllByRecursion (λ (c : Context). length c.content < 2 ^ 32) cs
+    → AllByRecursion context.Valid cs
+each_valid [] ids contents = tt
+each_valid (c ∷ cs) ids contents = ((ids.0, contents.0), each_valid cs ids.1 contents.1)
+
+contexts_valid : (cs : List Context) → length cs < 2 ^ 32 → All (λ (c : Context). c.id < 2 ^ 32) cs → All (λ (c : Context). length c.content < 2 ^ 32) cs
+    → contexts.Valid cs
+contexts_valid cs count ids contents =
+    (count, each_valid cs (recursion_from_All (λ (c : Context). c.id < 2 ^ 32) cs ids) (recursion_from_All (λ (c : Context). length c.content < 2 ^ 32) cs contents))
+
+reserved_valid : reserved.Valid (tt, (tt, tt))
+reserved_valid = ((lit< tt, refl), ((lit< tt, refl), (lit< tt, refl)))
+
+address_valid : (key : List ℕ) → length key < 2 ^ 32 → address.Valid key
+address_valid key h = ((lit< tt, (h, refl)), refl)
+
+below_is : (limit n : ℕ) → n < limit → below limit n ≡ Some n
+below_is limit n h = let e : ltb n limit ≡ true = lt-ltb _ _ h in rw e refl
+
+request_valid : (order : Order) (r : RequestMsg) → IsNumberedRequest r → IsRequest order r → request_head.Valid (head_of_request r)
+request_valid order r n h =
+    (n.id, (n.flags, (reserved_valid, (address_valid r.key h.key, (text_valid r.op h.no_zero h.op, contexts_valid r.contexts h.count n.contexts h.contents)))))
+
+reply_valid : (order : Order) (r : ReplyMsg) → IsNumberedReply r → IsReply order r → reply_head.Valid (head_of_reply r)
+reply_valid order r n h =
+    let small : r.status < 2 ^ 32 = omega (arith, h.status) in
+    (n.id, ((small, below_is 6 r.status h.status), contexts_valid r.contexts h.count n.contexts h.contents))
+
+locate_request_valid : (id : ℕ) (key : List ℕ) → id < 2 ^ 32 → length key < 2 ^ 32 → locate_request.Valid (id, key)
+locate_request_valid id key n h = (n, address_valid key h)
+
+locate_reply_valid : (id status : ℕ) → id < 2 ^ 32 → status < 2 → locate_reply.Valid (id, status)
+locate_reply_valid id status n h =
+    let small : status < 2 ^ 32 = omega arith in
+    (n, (small, below_is 2 status h))
+
+-- ---- headers
+
+kind_valid : (k : Kind) → kind.Valid k
+kind_valid kinds.Request = (lit< tt, refl)
+kind_valid kinds.Reply = (lit< tt, refl)
+kind_valid kinds.CancelRequest = (lit< tt, refl)
+kind_valid kinds.LocateRequest = (lit< tt, refl)
+kind_valid kinds.LocateReply = (lit< tt, refl)
+kind_valid kinds.CloseConnection = (lit< tt, refl)
+kind_valid kinds.MessageError = (lit< tt, refl)
+kind_valid kinds.Fragment = (lit< tt, refl)
+
+abbrev pub written_head : Order → Kind → ℕ → Head
+written_head order k size = record { flags = order_sign order; kind = k; size = size }
+
+sign_small : (order : Order) → order_sign order < 256 ^ 1
+sign_small Big = lit< tt
+sign_small Little = lit< tt
+
+head_valid : (order : Order) (k : Kind) (size : ℕ) → size < 2 ^ 32 → head.Valid (written_head order k size)
+head_valid order k size h = (
+  (lit< tt, refl),
+  ((lit< tt, refl), ((lit< tt, refl), ((lit< tt, refl), (((lit< tt, lit< tt), refl), (sign_small order, (kind_valid k, h)))))),
+)
+
+no_parts : (order : Order) (k : Kind) (size : ℕ) → if_flags_fit (written_head order k size) ≡ Some (written_head order k size)
+no_parts Big k size = refl
+no_parts Little k size = refl
+
+header_valid : (order : Order) (k : Kind) (size : ℕ) → size < 2 ^ 32 → header.Valid (written_head order k size)
+header_valid order k size h = (head_valid order k size h, no_parts order k size)
+
+sign_means : (order : Order) → order ≡ order_in (order_sign order)
+sign_means Big = refl
+sign_means Little = refl
+
+-- ---- the fields
+
+fields_written : {X : Type 0} (f : Format Why X) → IsCodec causes.Short f → (order : Order) (x : X) → f.Valid x → SpellsFields f.Spelled order x (f.written order 12 x)
+fields_written f law order x h = record {
+  front = f.written order 12 x;
+  more = [];
+  is = sym (append-nil (f.written order 12 x));
+  fields_spelled = law.spells order 12 x h;
+}
+
+with_body_written : {X : Type 0} (f : Format Why X) → IsCodec causes.Short f → (order : Order) (x : X) (body : Raw) → f.Valid x → IsBodyFor order body
+    → SpellsWithBody f.Spelled order x body (with_body (f.written order 12 x) body)
+with_body_written f law order x body h b =
+    let front = f.written order 12 x in
+    record {
+      front = front;
+      back = padded_body (12 + length front) body.bytes;
+      is = refl;
+      fields_spelled = law.spells order 12 x h;
+      body_spelled = body_spells order (12 + length front) body b.ordered b.aligned;
+    }
+
+payload_spells : (m : Message) (order : Order) → IsNumbered m → HasFields order m → SpellsPayload order m (written_payload order m)
+payload_spells (messages.Request r) order n h =
+    with_body_written request_head request_head_codec order (head_of_request r) r.body (request_valid order r n h) h.body
+payload_spells (messages.Reply r) order n h = with_body_written reply_head reply_head_codec order (head_of_reply r) r.body (reply_valid order r n h) h.body
+payload_spells (messages.Cancel id) order n h = fields_written request_id request_id_codec order id n
+payload_spells (messages.LocateRequest id key) order n h =
+    fields_written locate_request locate_request_codec order (id, key) (locate_request_valid id key n h)
+payload_spells (messages.LocateReply id status) order n h =
+    fields_written locate_reply locate_reply_codec order (id, status) (locate_reply_valid id status n h)
+payload_spells messages.CloseConnection order n h = tt
+payload_spells messages.MessageError order n h = tt
+payload_spells (messages.Fragment id rest) order n h = record {
+  front = request_id.written order 12 id;
+  is = refl;
+  id_spelled = request_id_codec.spells order 12 id n;
+}
+
+-- ---- the whole message
+
+-- what is written spells the message
+pub message_spells : (m : Message) (order : Order) → IsNumbered m → Writable m order → Spells (written_message m order) order m
+message_spells m order n w =
+    let payload = written_payload order m in
+    let h = written_head order (kind_in m) (length payload) in
+    let front = header.written Big 0 h in
+    let small : length payload < 2 ^ 32 = omega (arith, w.sized, length-append front payload) in
+    record {
+      flags = order_sign order;
+      front = front;
+      payload = payload;
+      more = [];
+      is = sym (append-nil (front ++ payload));
+      ordered = sign_means order;
+      head_spelled = header_codec.spells Big 0 h (header_valid order (kind_in m) (length payload) small);
+      fields_spelled = payload_spells m order n w.fields;
+    }
+
+-- and is read back
+pub message_back : (m : Message) (order : Order) → IsNumbered m → Writable m order → message_in (written_message m order) ≡ Ok (m, order)
+message_back m order n w = message_again (written_message m order) m order (message_spells m order n w)
+
+-- ---- a call's answers
+
+pub is_spelled : (m : Message) (order : Order) (result : Result (List ℕ) NoMemory) → IsNumbered m → Writable m order
+    → IfOk result (λ bytes. bytes ≡ written_message m order) → IfOk result (λ bytes. Spells bytes order m)
+is_spelled m order (Ok bytes) n w h = subst (λ (l : List ℕ). Spells l order m) (sym h) (message_spells m order n w)
+is_spelled m order (Err e) n w h = tt
+
+pub is_read_back : (m : Message) (order : Order) (result : Result (List ℕ) NoMemory) → IsNumbered m → Writable m order
+    → IfOk result (λ bytes. bytes ≡ written_message m order) → IfOk result (λ bytes. message_in bytes ≡ Ok (m, order))
+is_read_back m order (Ok bytes) n w h = ap message_in h ∙ message_back m order n w
+is_read_back m order (Err e) n w h = tt

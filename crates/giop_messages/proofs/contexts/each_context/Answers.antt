@@ -1,0 +1,25 @@
+use Rattle.std.proofs.Common.{arith}
+use Rattle.std.proofs.lemmas.Result.{err_from_is_err_and}
+use Rattle.cdr_codec.specs.Formats.{read_each}
+use Rattle.cdr_codec.proofs.CodecLaws.{goes_on, ends_for, is_done}
+use Rattle.giop_messages.specs.Fields.{context}
+use Rattle.giop_messages.specs.Faults.{field_fault}
+use Rattle.giop_messages.proofs.contexts.each_context.Goals as goal
+
+pub returns-in_err-one : goal.returns-in_err-one
+returns-in_err-one c =
+    let p = err_from_is_err_and c.from_residual.result c.from_residual.ensures.1 in
+    rw (p.1, p.2)
+    (ends_for context.read c.loop.contexts.items c.args.count c.loop.counter c.loop.reader (field_fault c.in_err-one.field-0.0)
+    (read_each context.read c.args.count c.args.reader.now) c.loop-test.true c.in_err-one.ensures c.loop.invariant)
+
+pub loop-preserved : goal.loop-preserved
+loop-preserved c =
+    rw c.in_ok-push.ensures.items
+    (goes_on context.read c.loop.contexts.items c.args.count c.loop.counter c.loop.reader c.in_ok-one.one c.read_context.new.reader
+    (read_each context.read c.args.count c.args.reader.now) (omega arith) c.in_ok-one.ensures c.loop.invariant)
+
+pub returns : goal.returns
+returns c =
+    is_done context.read c.loop.contexts.items c.args.count c.loop.counter c.loop.reader (read_each context.read c.args.count c.args.reader.now)
+    (omega arith) c.loop.invariant

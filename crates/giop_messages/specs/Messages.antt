@@ -1,0 +1,140 @@
+-- Which bytes spell which message, and what is read of bytes. (GIOP chapter, "GIOP Message Formats".)
+use Rattle.std.specs.Prelude.{◌≡◌, ◌≤◌, ℕ, ◌+◌, nat_lt, if◌then◌else◌, List, [], ◌∷◌, ◌++◌, length, take, drop, Result, Ok, Err}
+use Rattle.ft_base.specs.Canonical.{padding}
+use Rattle.cdr_codec.specs.declared.orders.Order.{Order}
+use Rattle.cdr_codec.specs.declared.orders.Order.TheVariants.{Big}
+use Rattle.cdr_codec.specs.declared.bodies.Raw.{Raw}
+use Rattle.cdr_codec.specs.Reading.{Reader, reader_at, Fault, fault_at, ◌>>=◌}
+use Rattle.cdr_codec.specs.Formats.{Spelling}
+use Rattle.giop_messages.specs.declared.faults.Why.{Why}
+use Rattle.giop_messages.specs.declared.faults.Why.TheVariants as causes
+use Rattle.giop_messages.specs.declared.heads.Kind.{Kind}
+use Rattle.giop_messages.specs.declared.heads.Kind.TheVariants as kinds
+use Rattle.giop_messages.specs.declared.heads.Head.{Head}
+use Rattle.giop_messages.specs.declared.messages.Message.{Message}
+use Rattle.giop_messages.specs.declared.messages.Message.TheVariants as messages
+use Rattle.giop_messages.specs.declared.messages.RequestMsg.{RequestMsg}
+use Rattle.giop_messages.specs.declared.messages.ReplyMsg.{ReplyMsg}
+use Rattle.giop_messages.specs.declared.requests.RequestHead.{RequestHead}
+use Rattle.giop_messages.specs.declared.replies.ReplyHead.{ReplyHead}
+use Rattle.giop_messages.specs.Heads.{header, order_in}
+use Rattle.giop_messages.specs.Fields.{request_id, request_head, reply_head, locate_request, locate_reply}
+
+abbrev pub kind_in : Message → Kind
+kind_in (messages.Request r) = kinds.Request
+kind_in (messages.Reply r) = kinds.Reply
+kind_in (messages.Cancel id) = kinds.CancelRequest
+kind_in (messages.LocateRequest id key) = kinds.LocateRequest
+kind_in (messages.LocateReply id status) = kinds.LocateReply
+kind_in messages.CloseConnection = kinds.CloseConnection
+kind_in messages.MessageError = kinds.MessageError
+kind_in (messages.Fragment id rest) = kinds.Fragment
+
+abbrev pub head_of_request : RequestMsg → RequestHead
+head_of_request r = record { id = r.id; flags = r.flags; key = r.key; op = r.op; contexts = r.contexts }
+
+abbrev pub head_of_reply : ReplyMsg → ReplyHead
+head_of_reply r = record { id = r.id; status = r.status; contexts = r.contexts }
+
+-- ---- spelling
+
+-- the padding before a body goes up to a multiple of 8; before an empty body it may end earlier
+abbrev pub IsPadded : List ℕ → ℕ → ℕ → Type 0
+IsPadded [] count whole = count ≤ whole
+IsPadded (b ∷ bs) count whole = count ≡ whole
+
+-- the bytes are padding and the body, up to the message's end
+pub record SpellsBody (order : Order) (place : ℕ) (body : Raw) (bytes : List ℕ) : Type 0 where
+  pub pad : List ℕ
+  pub is : bytes ≡ pad ++ body.bytes
+  pub padded : IsPadded body.bytes (length pad) (padding place 8)
+  pub ordered : body.order ≡ order
+  pub aligned : body.align ≡ 0
+
+-- fields from the header's end on, and behind them a body
+pub record SpellsWithBody {X : Type 0} (fields : Spelling X) (order : Order) (x : X) (body : Raw) (payload : List ℕ) : Type 0 where
+  pub front : List ℕ
+  pub back : List ℕ
+  pub is : payload ≡ front ++ back
+  pub fields_spelled : fields order 12 x front
+  pub body_spelled : SpellsBody order (12 + length front) body back
+
+-- fields from the header's end on; what follows them says nothing
+pub record SpellsFields {X : Type 0} (fields : Spelling X) (order : Order) (x : X) (payload : List ℕ) : Type 0 where
+  pub front : List ℕ
+  pub more : List ℕ
+  pub is : payload ≡ front ++ more
+  pub fields_spelled : fields order 12 x front
+
+-- a request id, and behind it what a fragment adds
+pub record SpellsFragment (order : Order) (id : ℕ) (rest payload : List ℕ) : Type 0 where
+  pub front : List ℕ
+  pub is : payload ≡ front ++ rest
+  pub id_spelled : request_id.Spelled order 12 id front
+
+abbrev pub SpellsPayload : Order → Message → List ℕ → Type 0
+SpellsPayload order (messages.Request r) payload = SpellsWithBody request_head.Spelled order (head_of_request r) r.body payload
+SpellsPayload order (messages.Reply r) payload = SpellsWithBody reply_head.Spelled order (head_of_reply r) r.body payload
+SpellsPayload order (messages.Cancel id) payload = SpellsFields request_id.Spelled order id payload
+SpellsPayload order (messages.LocateRequest id key) payload = SpellsFields locate_request.Spelled order (id, key) payload
+SpellsPayload order (messages.LocateReply id status) payload = SpellsFields locate_reply.Spelled order (id, status) payload
+SpellsPayload order messages.CloseConnection payload = Unit {0}
+SpellsPayload order messages.MessageError payload = Unit {0}
+SpellsPayload order (messages.Fragment id rest) payload = SpellsFragment order id rest payload
+
+-- At the front of the bytes stands the message in this byte order: a header, and as many bytes as it says,
+-- which spell the message's fields.
+pub record Spells (bytes : List ℕ) (order : Order) (message : Message) : Type 0 where
+  pub flags : ℕ
+  pub front : List ℕ
+  pub payload : List ℕ
+  pub more : List ℕ
+  pub is : bytes ≡ front ++ payload ++ more
+  pub ordered : order ≡ order_in flags
+  pub head_spelled : header.Spelled Big 0 (record { flags = flags; kind = kind_in message; size = length payload }) front
+  pub fields_spelled : SpellsPayload order message payload
+
+-- ---- reading
+
+-- the body behind the fields: what is left behind the padding
+abbrev pub body_at : Reader → Raw
+body_at r = record { order = r.order; align = 0; bytes = drop (padding r.place 8) r.rest }
+
+abbrev pub request_from : RequestHead → Raw → RequestMsg
+request_from h body = record { id = h.id; flags = h.flags; key = h.key; op = h.op; contexts = h.contexts; body = body }
+
+abbrev pub reply_from : ReplyHead → Raw → ReplyMsg
+reply_from h body = record { id = h.id; status = h.status; contexts = h.contexts; body = body }
+
+-- the message of this type whose fields stand there, up to the end of the rest
+abbrev pub payload_at : Kind → Reader → Result Message (Fault Why)
+payload_at kinds.Request r = request_head.read r >>= λ h. Ok (messages.Request (request_from h.0 (body_at h.1)))
+payload_at kinds.Reply r = reply_head.read r >>= λ h. Ok (messages.Reply (reply_from h.0 (body_at h.1)))
+payload_at kinds.CancelRequest r = request_id.read r >>= λ id. Ok (messages.Cancel id.0)
+payload_at kinds.LocateRequest r = locate_request.read r >>= λ x. Ok (messages.LocateRequest x.0.0 x.0.1)
+payload_at kinds.LocateReply r = locate_reply.read r >>= λ x. Ok (messages.LocateReply x.0.0 x.0.1)
+payload_at kinds.CloseConnection r = Ok messages.CloseConnection
+payload_at kinds.MessageError r = Ok messages.MessageError
+payload_at kinds.Fragment r = request_id.read r >>= λ id. Ok (messages.Fragment id.0 id.1.rest)
+
+-- the bytes end inside the message
+abbrev pub cut : List ℕ → Fault Why
+cut bytes = fault_at causes.Cut (length bytes)
+
+-- what stands behind the header, as many bytes as it says, from place 12 on
+abbrev pub payload_reader : Head → List ℕ → Reader
+payload_reader h bytes = reader_at (order_in h.flags) 12 (take h.size (drop 12 bytes))
+
+abbrev pub behind : List ℕ → Head → Result (Message × Order) (Fault Why)
+behind bytes h =
+    if nat_lt (length bytes) (12 + h.size) then Err (cut bytes)
+    else (payload_at h.kind (payload_reader h bytes) >>= λ m. Ok (m, order_in h.flags))
+
+-- the message of these bytes, whose header this reader reads
+abbrev pub headed : List ℕ → Reader → Result (Message × Order) (Fault Why)
+headed bytes r = header.read r >>= λ h. behind bytes h.0
+
+-- The message at the front of the bytes and its byte order, or the first thing that is wrong: the header is
+-- judged once it is there, and the fields once the whole message is there.
+abbrev pub message_in : List ℕ → Result (Message × Order) (Fault Why)
+message_in bytes = if nat_lt (length bytes) 12 then Err (cut bytes) else headed bytes (reader_at Big 0 bytes)

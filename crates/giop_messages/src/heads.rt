@@ -1,0 +1,246 @@
+//! The twelve bytes with which each message begins. (GIOP chapter, "GIOP Message Header".)
+ghost use Rattle.std.specs.Prelude.{◌≡◌, ◌≤◌, ◌<◌, ◌+◌, ◌^◌, length, Some, None, OnOk};
+ghost use Rattle.cdr_codec.specs.Calls.{Gives, appended};
+ghost use Rattle.cdr_codec.specs.Encapsulations.{order_sign};
+ghost use Rattle.giop_messages.specs.Faults.{wrong_of, IsJudged};
+ghost use Rattle.giop_messages.specs.Heads.{octet, magic_byte, version, kind, kind_of, kind_sign, order_in, more_in, size_by, head, header, has_parts, flags_fit, head_in};
+
+use crate::faults::{Malformed, Why};
+use cdr_codec::{CdrReader, CdrWriter, Order};
+use ft_base::NoMemory;
+
+/// The number of bytes of a header.
+pub const HEAD_LENGTH: usize = 12;
+
+/// The type of a message, from 0 to 7.
+#[derive(Clone, Copy, Debug, PartialEq, Eq)]
+pub enum Kind {
+    Request,
+    Reply,
+    CancelRequest,
+    LocateRequest,
+    LocateReply,
+    CloseConnection,
+    MessageError,
+    Fragment,
+}
+
+/// What a header says.
+#[derive(Clone, Copy, Debug, PartialEq, Eq)]
+pub struct Head {
+    /// Bit 0: the message is little endian. Bit 1: fragments follow. The others say nothing.
+    pub flags: u8,
+    pub kind: Kind,
+    /// The number of bytes behind the header.
+    pub size: u32,
+}
+
+impl Kind {
+    fn of(number: u8) -> Option<Kind>
+        ensures { result ≡ kind_of number }
+    {
+        match number {
+            0 => Some(Kind::Request),
+            1 => Some(Kind::Reply),
+            2 => Some(Kind::CancelRequest),
+            3 => Some(Kind::LocateRequest),
+            4 => Some(Kind::LocateReply),
+            5 => Some(Kind::CloseConnection),
+            6 => Some(Kind::MessageError),
+            7 => Some(Kind::Fragment),
+            _ => None,
+        }
+    }
+
+    /// The type's number in a header.
+    pub fn number(self) -> u8
+        ensures { result ≡ kind_sign self }
+    {
+        match self {
+            Kind::Request => 0,
+            Kind::Reply => 1,
+            Kind::CancelRequest => 2,
+            Kind::LocateRequest => 3,
+            Kind::LocateReply => 4,
+            Kind::CloseConnection => 5,
+            Kind::MessageError => 6,
+            Kind::Fragment => 7,
+        }
+    }
+
+    /// Whether a message of this type may come in fragments.
+    pub fn has_parts(self) -> bool
+        ensures { result ≡ has_parts self }
+    {
+        match self {
+            Kind::CancelRequest | Kind::CloseConnection | Kind::MessageError => false,
+            Kind::Request
+            | Kind::Reply
+            | Kind::LocateRequest
+            | Kind::LocateReply
+            | Kind::Fragment => true,
+        }
+    }
+}
+
+fn order_in(flags: u8) -> Order
+    ensures { result ≡ order_in flags }
+{
+    if flags % 2 == 1 {
+        Order::Little
+    } else {
+        Order::Big
+    }
+}
+
+impl Head {
+    /// The byte order of the message.
+    pub fn order(self) -> Order
+        ensures { result ≡ order_in self.flags }
+    {
+        order_in(self.flags)
+    }
+
+    /// Whether more fragments of the message follow.
+    pub fn more(self) -> bool
+        ensures { result ≡ more_in self.flags }
+    {
+        self.flags / 2 % 2 == 1
+    }
+
+    /// Whether no fragments are announced of a message that has none.
+    pub fn flags_fit(self) -> bool
+        ensures { result ≡ flags_fit self }
+    {
+        !self.more() || self.kind.has_parts()
+    }
+}
+
+fn read_octet(reader: &mut CdrReader) -> Result<u8, Malformed>
+    ensures { Gives (λ n. n) wrong_of result (octet.read reader.old) reader.new }
+{
+    let octet = reader.read_octet()?;
+    Ok(octet)
+}
+
+fn read_magic_byte(reader: &mut CdrReader, letter: u8) -> Result<(), Malformed>
+    ensures { Gives (λ u. tt) wrong_of result ((magic_byte letter).read reader.old) reader.new }
+{
+    let place = reader.place();
+    let octet = read_octet(reader)?;
+    if octet == letter {
+        Ok(())
+    } else {
+        Err(Malformed {
+            why: Why::Magic,
+            place,
+        })
+    }
+}
+
+fn read_version(reader: &mut CdrReader) -> Result<(), Malformed>
+    ensures { Gives (λ u. tt) wrong_of result (version.read reader.old) reader.new }
+{
+    let place = reader.place();
+    let major = read_octet(reader)?;
+    let minor = read_octet(reader)?;
+    if major == 1 && minor == 2 {
+        Ok(())
+    } else {
+        Err(Malformed {
+            why: Why::Version,
+            place,
+        })
+    }
+}
+
+fn read_kind(reader: &mut CdrReader) -> Result<Kind, Malformed>
+    ensures { Gives (λ k. k) wrong_of result (kind.read reader.old) reader.new }
+{
+    let place = reader.place();
+    let number = read_octet(reader)?;
+    match Kind::of(number) {
+        Some(kind) => Ok(kind),
+        None => Err(Malformed {
+            why: Why::Kind,
+            place,
+        }),
+    }
+}
+
+fn read_size(flags: u8, reader: &mut CdrReader) -> Result<u32, Malformed>
+    ensures { Gives (λ n. n) wrong_of result ((size_by flags).read reader.old) reader.new }
+{
+    let mut ordered = CdrReader::new(order_in(flags), reader.place(), reader.rest());
+    let size = ordered.read_u32()?;
+    *reader = CdrReader::new(reader.order(), ordered.place(), ordered.rest());
+    Ok(size)
+}
+
+fn read_fields(reader: &mut CdrReader) -> Result<Head, Malformed>
+    ensures { Gives (λ h. h) wrong_of result (head.read reader.old) reader.new }
+{
+    read_magic_byte(reader, b'G')?;
+    read_magic_byte(reader, b'I')?;
+    read_magic_byte(reader, b'O')?;
+    read_magic_byte(reader, b'P')?;
+    read_version(reader)?;
+    let flags = read_octet(reader)?;
+    let kind = read_kind(reader)?;
+    let size = read_size(flags, reader)?;
+    Ok(Head { flags, kind, size })
+}
+
+/// A header whose flags fit its type.
+pub fn read_header(reader: &mut CdrReader) -> Result<Head, Malformed>
+    ensures { Gives (λ h. h) wrong_of result (header.read reader.old) reader.new }
+{
+    let place = reader.place() + 6;
+    let head = read_fields(reader)?;
+    if head.flags_fit() {
+        Ok(head)
+    } else {
+        Err(Malformed {
+            why: Why::Flags,
+            place,
+        })
+    }
+}
+
+/// The header at the front of the bytes, whatever its flags: the causes are judged in the order `Magic`,
+/// `Version`, `Kind`.
+pub fn read_head(bytes: &[u8]) -> Result<Head, Malformed>
+    requires whole { 12 ≤ length bytes.now }
+    requires short { length bytes.now + 8 < 2 ^ 32 }
+    ensures { IsJudged result (head_in bytes.now) }
+{
+    let mut reader = CdrReader::new(Order::Big, 0, bytes);
+    read_fields(&mut reader)
+}
+
+fn order_sign(order: Order) -> u8
+    ensures { result ≡ order_sign order }
+{
+    match order {
+        Order::Big => 0,
+        Order::Little => 1,
+    }
+}
+
+/// The header of a message that is whole, in the writer's byte order.
+#[tactic(auto, using(crate::proofs::WritingSteps::header_written))]
+pub fn write_header(kind: Kind, size: u32, writer: &mut CdrWriter) -> Result<(), NoMemory>
+    ensures { OnOk result (writer.new ≡ appended header.written (record { flags = order_sign writer.old.order; kind = kind; size = size }) writer.old) }
+{
+    let flags = order_sign(writer.order());
+    writer.write_octet(b'G')?;
+    writer.write_octet(b'I')?;
+    writer.write_octet(b'O')?;
+    writer.write_octet(b'P')?;
+    writer.write_octet(1)?;
+    writer.write_octet(2)?;
+    writer.write_octet(flags)?;
+    writer.write_octet(kind.number())?;
+    writer.write_u32(size)?;
+    Ok(())
+}

@@ -1,0 +1,23 @@
+//! The laws of reading and writing messages. The functions do nothing: their contracts are facts.
+ghost use Rattle.giop_messages.specs.Laws.{HeadsAreReadExactly, MessagesAreReadExactly, MessagesAreSpelledOnce, MessagesAreSpelled, MessagesAreReadBack};
+
+/// The header that is read of bytes is the one that they spell.
+pub fn heads_are_read_exactly()
+    ensures { HeadsAreReadExactly }
+{}
+
+/// The message that is read of bytes is the one that they spell, and there is one at most.
+pub fn messages_are_read_exactly()
+    ensures exactly { MessagesAreReadExactly }
+    ensures once { MessagesAreSpelledOnce }
+{}
+
+/// What is written spells the message.
+pub fn messages_are_spelled()
+    ensures { MessagesAreSpelled }
+{}
+
+/// What is written is read back, in the byte order in which it was written.
+pub fn messages_are_read_back()
+    ensures { MessagesAreReadBack }
+{}

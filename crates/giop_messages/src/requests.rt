@@ -1,0 +1,89 @@
+ghost use Rattle.std.specs.Prelude.{◌≡◌, Some, OnOk};
+ghost use Rattle.cdr_codec.specs.Calls.{fault, Gives, appended};
+ghost use Rattle.giop_messages.specs.Faults.{read_fault};
+ghost use Rattle.giop_messages.specs.Fields.{reserved, from_address, request_head};
+ghost use Rattle.giop_messages.specs.Messages.{head_of_request};
+ghost use Rattle.giop_messages.specs.Writing.{IsRequest};
+
+use crate::addresses::{read_address, write_address};
+use crate::contexts::{read_contexts, write_contexts};
+use crate::faults::ReadFault;
+use crate::messages::RequestMsg;
+use cdr_codec::{CdrFault, CdrReader, CdrWriter};
+use ft_base::{Bytes, NoMemory};
+use ft_contexts::Contexts;
+use std::alloc::Global;
+
+/// The fields of a Request, up to its body.
+#[derive(Drop)]
+pub struct RequestHead {
+    pub id: u32,
+    pub flags: u8,
+    pub key: Bytes,
+    pub op: Bytes,
+    pub contexts: Contexts,
+}
+
+fn read_reserved(reader: &mut CdrReader) -> Result<(), CdrFault>
+    ensures { Gives (λ u. (tt, (tt, tt))) (λ wrong. Some (fault wrong)) result (reserved.read reader.old) reader.new }
+{
+    reader.read_octet()?;
+    reader.read_octet()?;
+    reader.read_octet()?;
+    Ok(())
+}
+
+pub fn read_request_head(alloc: Global, reader: &mut CdrReader) -> Result<RequestHead, ReadFault>
+    ensures { Gives (λ h. h) read_fault result (request_head.read reader.old) reader.new }
+{
+    let id = reader.read_u32()?;
+    let flags = reader.read_octet()?;
+    read_reserved(reader)?;
+    let key = read_address(alloc, reader)?;
+    let op = reader.read_string()?;
+    let op = Bytes::of(alloc, op)?;
+    let contexts = read_contexts(alloc, reader)?;
+    Ok(RequestHead {
+        id,
+        flags,
+        key,
+        op,
+        contexts,
+    })
+}
+
+#[tactic(auto, using(crate::proofs::WritingSteps::reserved_written))]
+fn write_reserved(writer: &mut CdrWriter) -> Result<(), NoMemory>
+    ensures { OnOk result (writer.new ≡ appended reserved.written (tt, (tt, tt)) writer.old) }
+{
+    writer.write_octet(0)?;
+    writer.write_octet(0)?;
+    writer.write_octet(0)?;
+    Ok(())
+}
+
+/// What is called, and what goes with it: the target, the operation, and the contexts.
+#[tactic(auto, using(crate::proofs::WritingSteps::from_address_written))]
+fn write_called(request: &RequestMsg, writer: &mut CdrWriter) -> Result<(), NoMemory>
+    requires { IsRequest writer.now.order request.now }
+    ensures { OnOk result (writer.new ≡ appended from_address.written (request.now.key, (request.now.op, request.now.contexts)) writer.old) }
+{
+    write_address(request.key.bytes(), writer)?;
+    writer.write_string(request.op.bytes())?;
+    write_contexts(request.contexts.as_slice(), writer)?;
+    Ok(())
+}
+
+#[tactic(auto, using(crate::proofs::WritingSteps::request_head_written))]
+pub fn write_request_head(request: &RequestMsg, writer: &mut CdrWriter) -> Result<(), NoMemory>
+    requires { IsRequest writer.now.order request.now }
+    ensures { OnOk result (writer.new ≡ appended request_head.written (head_of_request request.now) writer.old) }
+{
+    let id = request.id;
+    let flags = request.flags;
+    writer.write_u32(id)?;
+    writer.write_octet(flags)?;
+    write_reserved(writer)?;
+    write_called(request, writer)?;
+    Ok(())
+}

@@ -1,0 +1,4 @@
+pub mod StreamLaws
+pub mod TurnLaws
+pub mod FrameLaws
+pub mod TallyLaws

@@ -1,0 +1,399 @@
+//! The messages whose last fragment has not come.
+ghost use Rattle.std.specs.Prelude.{◌≡◌, ◌≤◌, ◌<◌, ◌+◌, ◌==◌, ℕ, [], ◌∷◌, ◌++◌, length, drop, remove, slice_get, slice_set, Some, vec_len, IfOk, IfSome, OnOk, OnErr};
+ghost use Rattle.cdr_codec.specs.Reading.{digits_in};
+ghost use Rattle.giop_messages.specs.Heads.{order_in};
+ghost use Rattle.giop_stream.specs.Faults.{Answers};
+ghost use Rattle.giop_stream.specs.Fronts.{message_limit};
+ghost use Rattle.giop_stream.specs.Parts.{Begun, begun_limit, place_of, grown, joined, id_in, message_at, is_fragment, Joins, begins, completes, grows_at, fragment, turn, Turned};
+ghost use Rattle.giop_stream.specs.Tallies.{brief, briefs};
+
+use crate::faults::StreamFault;
+use crate::fronts::{HEAD_LENGTH, MESSAGE_LIMIT};
+use crate::tallies::{Brief, Tally};
+use cdr_codec::{CdrReader, Order};
+use ft_base::NoMemory;
+use giop_messages::{Head, Kind, Malformed, Message, Why, read_message};
+use std::alloc::Global;
+use std::marker::Model;
+
+/// The most messages that are begun at once.
+const BEGUN_LIMIT: usize = 8;
+
+/// The number of bytes of a fragment before its rest: the header and the request id.
+const FRAGMENT_HEAD: usize = 16;
+
+const OUT_OF_TURN: StreamFault = StreamFault::Malformed {
+    why: Why::Open,
+    place: 12,
+};
+
+/// A begun message: its id, its first part as it came with the rests of its fragments behind it, and the
+/// number of bytes of all its parts with their headers, as far as it is counted.
+#[derive(Drop)]
+pub struct Opened {
+    id: u32,
+    bytes: Vec<u8>,
+    spent: u32,
+}
+
+impl Model for Opened {
+    ghost use Rattle.std.specs.Prelude.{◌≤◌, vec_len};
+    ghost use Rattle.giop_stream.specs.Fronts.{message_limit};
+    ghost use Rattle.giop_stream.specs.Parts.{Begun};
+
+    ghost Value = { Begun };
+
+    ghost view = { λ o. record { id = o.id; bytes = o.bytes.items; spent = o.spent } };
+
+    ghost invariant = { λ o. (12 ≤ vec_len o.bytes) × (vec_len o.bytes ≤ message_limit) };
+}
+
+fn order_of(flags: u8) -> Order
+    ensures { result ≡ order_in flags }
+{
+    if flags % 2 == 1 {
+        Order::Little
+    } else {
+        Order::Big
+    }
+}
+
+fn digits_of(order: Order, n: u32) -> [u8; 4]
+    ensures { result ≡ digits_in order 4 n }
+{
+    match order {
+        Order::Big => n.to_be_bytes(),
+        Order::Little => n.to_le_bytes(),
+    }
+}
+
+/// A first part and the rest of the last fragment as one message.
+fn join(alloc: Global, first: &[u8], rest: &[u8]) -> Result<Vec<u8>, NoMemory>
+    requires long { 12 ≤ length first.now }
+    requires fits { length first.now + length rest.now ≤ message_limit }
+    ensures value { IfOk result (λ v. v.items ≡ joined first.now rest.now) }
+    ensures small { IfOk result (λ v. vec_len v ≤ message_limit) }
+{
+    let size = first.len() + rest.len();
+    let flags = first[6];
+    let mut message = Vec::with_capacity(alloc, size)?;
+    message.extend_from_slice(&first[..6]).unwrap();
+    message
+        .extend_from_slice(&[flags.saturating_sub(2), first[7]])
+        .unwrap();
+    message
+        .extend_from_slice(&digits_of(order_of(flags), (size - HEAD_LENGTH) as u32))
+        .unwrap();
+    message.extend_from_slice(&first[HEAD_LENGTH..]).unwrap();
+    message.extend_from_slice(rest).unwrap();
+    Ok(message)
+}
+
+impl Opened {
+    fn begin(alloc: Global, id: u32, part: &[u8]) -> Result<Opened, NoMemory>
+        requires long { 12 ≤ length part.now }
+        requires small { length part.now ≤ message_limit }
+        ensures { IfOk result (λ o. o ≡ record { id = id; bytes = part.now; spent = length part.now }) }
+    {
+        let bytes = Vec::from_slice(alloc, part)?;
+        Ok(Opened {
+            id,
+            bytes,
+            spent: part.len() as u32,
+        })
+    }
+
+    fn brief(&self) -> Brief
+        ensures { result ≡ brief self.now }
+    {
+        Brief {
+            id: self.id,
+            spent: self.spent,
+        }
+    }
+
+    fn has(&self, id: u32) -> bool
+        ensures { result ≡ (self.now.id == id) }
+    {
+        self.id == id
+    }
+
+    fn len(&self) -> usize
+        ensures value { result ≡ length self.now.bytes }
+        ensures small { result ≤ message_limit }
+    {
+        self.bytes.len()
+    }
+
+    fn grow(&mut self, rest: &[u8]) -> Result<(), NoMemory>
+        requires { length self.old.bytes + length rest.now ≤ message_limit }
+        ensures ok { OnOk result (self.new ≡ grown self.old rest.now) }
+        ensures err { OnErr result (self.new ≡ self.old) }
+    {
+        self.bytes.extend_from_slice(rest)?;
+        self.spent = self
+            .spent
+            .saturating_add((FRAGMENT_HEAD + rest.len()) as u32);
+        Ok(())
+    }
+
+    fn join(&self, alloc: Global, rest: &[u8]) -> Result<Vec<u8>, NoMemory>
+        requires { length self.now.bytes + length rest.now ≤ message_limit }
+        ensures value { IfOk result (λ v. v.items ≡ joined self.now.bytes rest.now) }
+        ensures small { IfOk result (λ v. vec_len v ≤ message_limit) }
+    {
+        join(alloc, self.bytes.as_slice(), rest)
+    }
+}
+
+#[tactic(auto, unfolding(crate::specs::Parts::id_in))]
+pub fn read_id(order: Order, part: &[u8]) -> Result<u32, StreamFault>
+    requires long { 12 ≤ length part.now }
+    requires small { length part.now ≤ message_limit }
+    ensures value { result ≡ id_in order part.now }
+    ensures room { IfOk result (λ _. 16 ≤ length part.now) }
+{
+    let mut reader = CdrReader::new(order, 12, &part[HEAD_LENGTH..]);
+    match reader.read_u32() {
+        Ok(id) => Ok(id),
+        Err(wrong) => {
+            let wrong = Malformed::from(wrong);
+            Err(StreamFault::Malformed {
+                why: wrong.why,
+                place: wrong.place,
+            })
+        }
+    }
+}
+
+/// What a fragment adds.
+fn rest_of(part: &[u8]) -> &[u8]
+    requires { 16 ≤ length part.now }
+    ensures { result.now ≡ drop 16 part.now }
+{
+    &part[FRAGMENT_HEAD..]
+}
+
+#[tactic(auto, unfolding(crate::specs::Parts::message_at))]
+fn read_whole(alloc: Global, bytes: &[u8]) -> Result<(Message, Order), StreamFault>
+    requires { length bytes.now ≤ message_limit }
+    ensures { Answers result (message_at bytes.now) }
+{
+    let message = read_message(alloc, bytes)?;
+    Ok(message)
+}
+
+pub fn is_fragment(kind: Kind) -> bool
+    ensures { result ≡ is_fragment kind }
+{
+    matches!(kind, Kind::Fragment)
+}
+
+fn tally_of(items: &[Opened]) -> Tally
+    requires { length items.now ≤ begun_limit }
+    ensures { result ≡ briefs items.now }
+{
+    let mut tally = Tally::new();
+    for begun in items {
+        tally.add(begun.brief());
+    }
+    tally
+}
+
+/// All messages that are begun, in the order in which they began.
+#[derive(Drop)]
+pub struct Partials {
+    items: Vec<Opened>,
+}
+
+impl Model for Partials {
+    ghost use Rattle.std.specs.Prelude.{◌≤◌, List, vec_len};
+    ghost use Rattle.giop_stream.specs.Parts.{Begun, begun_limit};
+
+    ghost Value = { List Begun };
+
+    ghost view = { λ p. p.items.items };
+
+    ghost invariant = { λ p. vec_len p.items ≤ begun_limit };
+}
+
+impl Partials {
+    pub fn new(alloc: Global) -> Partials
+        ensures { result ≡ [] }
+    {
+        Partials {
+            items: Vec::new(alloc),
+        }
+    }
+
+    /// What counts the bytes that belong to no whole message.
+    pub fn tally(&self) -> Tally
+        ensures { result ≡ briefs self.now }
+    {
+        tally_of(self.items.as_slice())
+    }
+
+    fn len(&self) -> usize
+        ensures value { result ≡ length self.now }
+        ensures few { length self.now ≤ begun_limit }
+    {
+        self.items.len()
+    }
+
+    fn place_of(&self, id: u32) -> Option<usize>
+        ensures value { result ≡ place_of id self.now }
+        ensures within { IfSome result (λ at. at < length self.now) }
+    {
+        self.items.iter().position(|begun| begun.has(id))
+    }
+
+    fn size(&self, at: usize) -> usize
+        requires { at < length self.now }
+        ensures value { (o : Begun) → slice_get self.now at ≡ Some o → result ≡ length o.bytes }
+        ensures small { result ≤ message_limit }
+    {
+        self.items[at].len()
+    }
+
+    fn push(&mut self, begun: Opened) -> Result<(), NoMemory>
+        requires { length self.old < begun_limit }
+        ensures ok { OnOk result (self.new ≡ self.old ++ begun ∷ []) }
+        ensures err { OnErr result (self.new ≡ self.old) }
+    {
+        self.items.push(begun)?;
+        Ok(())
+    }
+
+    #[tactic(auto, using(std::proofs::lemmas::Option::slice_get_read))]
+    fn extend(&mut self, at: usize, rest: &[u8]) -> Result<(), NoMemory>
+        requires within { at < length self.old }
+        requires fits { (o : Begun) → slice_get self.old at ≡ Some o → length o.bytes + length rest.now ≤ message_limit }
+        ensures ok { (o : Begun) → slice_get self.old at ≡ Some o → OnOk result (self.new ≡ slice_set self.old at (grown o rest.now)) }
+        ensures err { OnErr result (self.new ≡ self.old) }
+    {
+        let begun = &mut self.items[at];
+        match begun.grow(rest) {
+            Ok(()) => return Ok(()),
+            Err(NoMemory) => return Err(NoMemory),
+        }
+    }
+
+    #[tactic(auto, using(std::proofs::lemmas::Option::slice_get_read))]
+    fn join(&self, alloc: Global, at: usize, rest: &[u8]) -> Result<Vec<u8>, NoMemory>
+        requires within { at < length self.now }
+        requires fits { (o : Begun) → slice_get self.now at ≡ Some o → length o.bytes + length rest.now ≤ message_limit }
+        ensures value { (o : Begun) → slice_get self.now at ≡ Some o → IfOk result (λ v. v.items ≡ joined o.bytes rest.now) }
+        ensures small { IfOk result (λ v. vec_len v ≤ message_limit) }
+    {
+        self.items[at].join(alloc, rest)
+    }
+
+    fn remove(&mut self, at: usize)
+        requires { at < length self.old }
+        ensures { self.new ≡ remove self.old at }
+    {
+        self.items.remove(at);
+    }
+}
+
+impl Partials {
+    /// A first part, with more to follow.
+    fn begin(
+        &mut self,
+        alloc: Global,
+        head: Head,
+        part: &[u8],
+    ) -> Result<Option<(Message, Order)>, StreamFault>
+        requires long { 12 ≤ length part.now }
+        requires small { length part.now ≤ message_limit }
+        ensures { Turned result self.old (begins self.old head part.now) self.new }
+    {
+        let id = read_id(head.order(), part)?;
+        if self.place_of(id).is_some() || self.len() >= BEGUN_LIMIT {
+            return Err(OUT_OF_TURN);
+        }
+        let begun = Opened::begin(alloc, id, part)?;
+        self.push(begun)?;
+        Ok(None)
+    }
+
+    /// The message at this place becomes whole.
+    fn complete(
+        &mut self,
+        alloc: Global,
+        at: usize,
+        rest: &[u8],
+    ) -> Result<Option<(Message, Order)>, StreamFault>
+        requires within { at < length self.old }
+        requires fits { (o : Begun) → slice_get self.old at ≡ Some o → length o.bytes + length rest.now ≤ message_limit }
+        ensures { (o : Begun) → slice_get self.old at ≡ Some o → Turned result self.old (completes self.old at o rest.now) self.new }
+    {
+        let whole = self.join(alloc, at, rest)?;
+        let message = read_whole(alloc, whole.as_slice())?;
+        self.remove(at);
+        Ok(Some(message))
+    }
+
+    /// The rest of a fragment, behind the message at this place.
+    fn grow(
+        &mut self,
+        alloc: Global,
+        at: usize,
+        more: bool,
+        rest: &[u8],
+    ) -> Result<Option<(Message, Order)>, StreamFault>
+        requires within { at < length self.old }
+        requires small { length rest.now ≤ message_limit }
+        ensures { (o : Begun) → slice_get self.old at ≡ Some o → Turned result self.old (grows_at self.old at more rest.now (Some o)) self.new }
+    {
+        let size = self.size(at) as u64 + rest.len() as u64;
+        if size > MESSAGE_LIMIT {
+            return Err(StreamFault::TooLarge(size));
+        }
+        if more {
+            self.extend(at, rest)?;
+            return Ok(None);
+        }
+        self.complete(alloc, at, rest)
+    }
+
+    fn fragment(
+        &mut self,
+        alloc: Global,
+        head: Head,
+        part: &[u8],
+    ) -> Result<Option<(Message, Order)>, StreamFault>
+        requires long { 12 ≤ length part.now }
+        requires small { length part.now ≤ message_limit }
+        ensures { Turned result self.old (fragment self.old head part.now) self.new }
+    {
+        let id = read_id(head.order(), part)?;
+        match self.place_of(id) {
+            Some(at) => self.grow(alloc, at, head.more(), rest_of(part)),
+            None => Err(OUT_OF_TURN),
+        }
+    }
+
+    /// A whole message or part: it answers the message that this makes whole, if any. After a fault, or
+    /// want of memory, the begun messages are as they were.
+    #[tactic(auto, unfolding(crate::specs::Parts::turn))]
+    pub fn take(
+        &mut self,
+        alloc: Global,
+        head: Head,
+        part: &[u8],
+    ) -> Result<Option<(Message, Order)>, StreamFault>
+        requires long { 12 ≤ length part.now }
+        requires small { length part.now ≤ message_limit }
+        ensures { Turned result self.old (turn self.old head part.now) self.new }
+    {
+        if is_fragment(head.kind) {
+            return self.fragment(alloc, head, part);
+        }
+        if head.more() {
+            return self.begin(alloc, head, part);
+        }
+        let message = read_whole(alloc, part)?;
+        Ok(Some(message))
+    }
+}

@@ -1,0 +1,17 @@
+//! A link read in pieces: which messages of GIOP 1.2 come in its bytes, with their fragments joined.
+//! (GIOP chapter, "GIOP Message Header" and "Fragment Message".)
+//!
+//! `specs/` say it of the whole list of bytes (`stream`); the framer is fed pieces of it.
+#![tactic(auto)]
+
+mod begun;
+mod buffers;
+mod faults;
+mod framers;
+mod fronts;
+mod tallies;
+#[cfg(test)]
+mod tests;
+
+pub use faults::StreamFault;
+pub use framers::Framer;

@@ -1,0 +1,4 @@
+pub mod Servant
+pub mod Asked
+pub mod Group
+pub mod Kept

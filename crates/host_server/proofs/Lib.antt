@@ -1,0 +1,4 @@
+pub mod Lengths
+pub mod ValueLaws
+pub mod BodyLaws
+pub mod ReplyLaws

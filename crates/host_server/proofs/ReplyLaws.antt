@@ -1,0 +1,64 @@
+-- Replies can be written: with its header none is over 1 MiB.
+use Rattle.std.proofs.Common.{◌≡◌, ◌≤◌, ◌<◌, ℕ, ◌+◌, List, [], ◌∷◌, ◌++◌, length, replicate, refl, length-append, arith, lit≤, lit<}
+use Rattle.std.proofs.lemmas.List.{length-replicate}
+use Rattle.ft_base.specs.Canonical.{padding}
+use Rattle.cdr_codec.specs.declared.orders.Order.{Order}
+use Rattle.cdr_codec.specs.declared.orders.Order.TheVariants.{Big, Little}
+use Rattle.cdr_codec.specs.Encapsulations.{order_sign}
+use Rattle.giop_messages.specs.declared.heads.Kind.{Kind}
+use Rattle.giop_messages.specs.declared.heads.Kind.TheVariants as kinds
+use Rattle.giop_messages.specs.declared.messages.Message.TheVariants as messages
+use Rattle.giop_messages.specs.declared.messages.ReplyMsg.{ReplyMsg}
+use Rattle.giop_messages.specs.Heads.{header}
+use Rattle.giop_messages.specs.Fields.{reply_head}
+use Rattle.giop_messages.specs.Messages.{head_of_reply}
+use Rattle.giop_messages.specs.Writing.{padded_body, written_message, Writable}
+use Rattle.host_server.specs.Replies.{IsShortBody}
+
+abbrev headed : Order → Kind → ℕ → List ℕ
+headed order kind size = header.written Big 0 (record { flags = order_sign order; kind = kind; size = size })
+
+reply_headed : (order : Order) (size : ℕ) → length (headed order kinds.Reply size) ≡ 12
+reply_headed Big size = refl
+reply_headed Little size = refl
+
+-- the fields of a Reply without contexts
+fields_length : (order : Order) (id status : ℕ) → length (reply_head.written order 12 (record { id = id; status = status; contexts = [] })) ≡ 12
+fields_length Big id status = refl
+fields_length Little id status = refl
+
+body_length : (place : ℕ) (body : List ℕ) → length (padded_body place body) ≤ length body + 7
+body_length place [] = lit≤ tt
+body_length place (b ∷ bs) = omega (arith, length-append (replicate (padding place 8) 0) (b ∷ bs), length-replicate {A = ℕ} (padding place 8) 0)
+
+abbrev a_reply : ℕ → ℕ → Order → List ℕ → ReplyMsg
+a_reply id status order bytes =
+    record { id = id; status = status; contexts = []; body = record { order = order; align = 0; bytes = bytes } }
+
+reply_sized : (id status : ℕ) (order : Order) (bytes : List ℕ) → IsShortBody bytes
+    → length (written_message (messages.Reply (a_reply id status order bytes)) order) ≤ 1048576
+reply_sized id status order bytes h =
+    let front = reply_head.written order 12 (head_of_reply (a_reply id status order bytes)) in
+    let body = padded_body (12 + length front) bytes in
+    let size = length (front ++ body) in
+    omega (
+      arith,
+      length-append (headed order kinds.Reply size) (front ++ body),
+      length-append front body,
+      reply_headed order size,
+      fields_length order id status,
+      body_length (12 + length front) bytes,
+      h,
+    )
+
+pub reply_writable : (id status : ℕ) (order : Order) (bytes : List ℕ) → status < 6 → IsShortBody bytes
+    → Writable (messages.Reply (a_reply id status order bytes)) order
+reply_writable id status order bytes small short = record {
+  fields = record {
+    status = small;
+    count = lit< tt;
+    contents = λ k d h. absurd (omega arith);
+    body = record { ordered = refl; aligned = refl; short = omega arith };
+  };
+  sized = reply_sized id status order bytes short;
+}

@@ -1,0 +1,13 @@
+//! What a host says on a link: the replies to requests and to questions where an object is. (GIOP
+//! chapter, "GIOP Message Formats".)
+#![tactic(auto)]
+
+mod answers;
+mod bodies;
+mod replies;
+#[cfg(test)]
+mod tests;
+mod values;
+
+pub use answers::PortAnswer;
+pub use replies::{locate_reply_bytes, message_error_bytes, reply_bytes};
