@@ -29,6 +29,16 @@ const EXCEPTION: &str = concat!(
     "0000001749444c3a6674632f5175657565456d7074793a312e3000",
 );
 
+// A request `deposit` with an amount of 5 as its body, and its reply.
+const DEPOSIT: &str = concat!(
+    "47494f500102000000000034000000010300000000000000",
+    "0000000c46544f470000000000000001",
+    "000000086465706f7369740000000000",
+    "0000000000000005",
+);
+
+const DEPOSITED: &str = "47494f5001020001000000140000000100000000000000000000000000000005";
+
 // A request `pop`, which ends with its fields, and with a padding behind them.
 const POP: &str = concat!(
     "47494f500102000000000028000000090300000000000000",
@@ -113,13 +123,15 @@ fn reply_in(alloc: Global, text: &str) -> Option<ReplyMsg> {
 fn requests_are_read(rt: HostRuntime) {
     let alloc = rt.alloc();
     let ftog = b"FTOG\0\0\0\0\0\0\0\x01".as_slice();
-    let cases: [(&str, Order, u32, &[u8], &[u8]); 4] = [
-        (BALANCE, Order::Little, 7, ftog, b"balance"),
-        (POP, Order::Big, 9, ftog, b"pop"),
-        (PADDED_POP, Order::Big, 9, ftog, b"pop"),
-        (MARKED_POP, Order::Big, 9, b"key", b"pop"),
+    let amount = b"\0\0\0\0\0\0\0\x05".as_slice();
+    let cases: [(&str, Order, u32, &[u8], &[u8], &[u8]); 5] = [
+        (BALANCE, Order::Little, 7, ftog, b"balance", b""),
+        (DEPOSIT, Order::Big, 1, ftog, b"deposit", amount),
+        (POP, Order::Big, 9, ftog, b"pop", b""),
+        (PADDED_POP, Order::Big, 9, ftog, b"pop", b""),
+        (MARKED_POP, Order::Big, 9, b"key", b"pop", b""),
     ];
-    for (text, order, id, key, op) in cases {
+    for (text, order, id, key, op, body) in cases {
         match request_in(alloc, text) {
             Some(request) => {
                 assert!(rt; request.body.order == order);
@@ -128,7 +140,7 @@ fn requests_are_read(rt: HostRuntime) {
                 assert!(rt; is_text(&request.key, key));
                 assert!(rt; is_text(&request.op, op));
                 assert_eq!(rt; request.contexts.as_slice().len(), 0);
-                assert!(rt; is_text(&request.body.bytes, b""));
+                assert!(rt; is_text(&request.body.bytes, body));
             }
             None => assert!(rt; false, "no request {text}"),
         }
@@ -139,8 +151,9 @@ fn requests_are_read(rt: HostRuntime) {
 fn replies_are_read(rt: HostRuntime) {
     let alloc = rt.alloc();
     let id = b"\0\0\0\x17IDL:ftc/QueueEmpty:1.0\0".as_slice();
-    let cases: [(&str, Order, u32, u32, usize, &[u8]); 3] = [
+    let cases: [(&str, Order, u32, u32, usize, &[u8]); 4] = [
         (REPLY, Order::Little, 7, 0, 0, b"\x05\0\0\0\0\0\0\0"),
+        (DEPOSITED, Order::Big, 1, 0, 0, b"\0\0\0\0\0\0\0\x05"),
         (EXCEPTION, Order::Big, 9, 1, 0, id),
         (TOLD, Order::Big, 9, 0, 1, b"body"),
     ];

@@ -61,7 +61,6 @@ pub fn reply_bytes(
 
 /// The bytes of the LocateReply to the request with this id, in its byte order: whether the object is
 /// here, or nothing is known of it. (GIOP chapter, "LocateReply Message".)
-
 pub fn locate_reply_bytes(
     alloc: Global,
     id: u32,
