@@ -31,8 +31,7 @@ deposit_writable id = record {
     key = lit< tt;
     no_zero = refl;
     op = lit< tt;
-    count = lit< tt;
-    contents = All-nil (λ (c : Context). length c.content < 2 ^ 32);
+    contexts = record { count = lit< tt; contents = All-nil (λ (c : Context). length c.content < 2 ^ 32) };
     body = record { ordered = refl; aligned = refl; short = lit< tt };
   };
   sized = omega (arith, deposit_sized id);

@@ -1,13 +1,15 @@
 -- A body is its parameters exactly where they are read up to its end.
-use Rattle.std.proofs.Common.{◌≡◌, ℕ, ◌+◌, List, [], ◌∷◌, ◌++◌, Result, Ok, Err, refl, sym, ap, subst, ◌∙◌, append-nil, arith}
+use Rattle.std.proofs.Common.{◌≡◌, ◌↔◌, ℕ, ◌+◌, List, [], ◌∷◌, ◌++◌, Result, Ok, Err, refl, sym, ap, subst, ◌∙◌, append-nil, arith}
 use Rattle.std.specs.Prelude.{IfOk}
+use Rattle.ft_base.specs.Canonical.{values_at, AreValuesAt, AreSpelledAs, IsCanonical}
 use Rattle.ft_base.specs.declared.requests.Par.{Par}
+use Rattle.ft_base.specs.declared.values.Value.{Value}
 use Rattle.cdr_codec.specs.declared.faults.CdrWhy.{CdrWhy}
 use Rattle.cdr_codec.specs.declared.bodies.Raw.{Raw}
 use Rattle.cdr_codec.specs.declared.bodies.ArgsFault.{ArgsFault}
 use Rattle.cdr_codec.specs.declared.bodies.ArgsFault.TheVariants as faults
 use Rattle.cdr_codec.specs.Reading.{Reader, reader_at, Read}
-use Rattle.cdr_codec.specs.Arguments.{Value, params, IsBody, canonical, body_reader, whole, whole_read, values_at, IsFormOf, StopsAt, IsNoBody}
+use Rattle.cdr_codec.specs.Arguments.{params, IsBody, body_reader, whole, whole_read, values_read, IsFormOf, StopsAt, IsNoBody}
 use Rattle.cdr_codec.specs.Copies.{IsArgs, OnBad}
 use Rattle.cdr_codec.proofs.Steps.{done, failed, with_reader, bind_ok, ok_is, ok_err, err_ok}
 use Rattle.cdr_codec.proofs.ArgumentLaws.{params_codec}
@@ -28,7 +30,7 @@ whole_read_ok (Ok y) x e =
     record { after = y.1; is = ap (λ (z : _). done (with_reader z y.1)) w.1; ended = w.0 }
 whole_read_ok (Err d) x e = absurd (err_ok x d.place e)
 
-found_body : (body : Raw) (pars : List Par) (values : List Value) → values_at (body_reader body) pars ≡ Ok values → IsBody body pars values
+found_body : (body : Raw) (pars : List Par) (values : List Value) → values_read (body_reader body) pars ≡ Ok values → IsBody body pars values
 found_body body pars values e =
     let w = whole_read_ok ((params pars).read (body_reader body)) values e in
     let t = (params_codec pars).found (body_reader body) (with_reader values w.after) w.is in
@@ -37,14 +39,23 @@ found_body body pars values e =
 
 pub is_form : (body : Raw) (pars : List Par) (result : Result (List ℕ) ArgsFault) → IsArgs (body_reader body) pars result → IfOk result (λ args. IsFormOf args body pars)
 is_form body pars (Ok args) h =
-    let v = bind_ok (values_at (body_reader body) pars) (λ values. done (canonical pars values)) args h in
-    record { values = v.0; is = found_body body pars v.0 v.1; form = sym (ok_is (canonical pars v.0) args v.2) }
+    let v = bind_ok (values_read (body_reader body) pars) (λ values. done (values_at 0 values)) args h in
+    record { values = v.0; is = found_body body pars v.0 v.1; form = sym (ok_is (values_at 0 v.0) args v.2) }
 is_form body pars (Err e) h = tt
 
-read_body : (body : Raw) (pars : List Par) (values : List Value) → IsBody body pars values → values_at (body_reader body) pars ≡ Ok values
+-- bytes are in canonical form exactly where they are the spellings of values
+abbrev pub AreForms : Type 0
+AreForms = (pars : List Par) (place : ℕ) (bytes : List ℕ) → AreValuesAt pars place bytes ↔ AreSpelledAs pars place bytes
+
+pub is_canonical : {E : Type 0} (pars : List Par) (result : Result (List ℕ) E) → AreForms → IfOk result (λ args. AreSpelledAs pars 0 args)
+    → IfOk result (λ args. IsCanonical pars args)
+is_canonical pars (Ok args) forms h = (forms pars 0 args).1 h
+is_canonical pars (Err e) forms h = tt
+
+read_body : (body : Raw) (pars : List Par) (values : List Value) → IsBody body pars values → values_read (body_reader body) pars ≡ Ok values
 read_body body pars values h =
     let e = (params_codec pars).again body.order body.align values body.bytes [] h in
-    ap (λ (l : List ℕ). values_at (reader_at body.order body.align l) pars) (sym (append-nil body.bytes)) ∙ ap whole_read e
+    ap (λ (l : List ℕ). values_read (reader_at body.order body.align l) pars) (sym (append-nil body.bytes)) ∙ ap whole_read e
 
 pub is_no_body : (body : Raw) (pars : List Par) (result : Result (List ℕ) ArgsFault) → IsArgs (body_reader body) pars result → OnBad result (λ place. IsNoBody body pars)
 is_no_body body pars (Ok args) h = tt

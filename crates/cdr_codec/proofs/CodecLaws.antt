@@ -3,7 +3,7 @@ use Rattle.std.proofs.Common.{◌≡◌, ◌↔◌, ℕ, suc, ◌+◌, ◌-◌, 
 use Rattle.cdr_codec.specs.Reading.{Reader, reader_at, Fault, Read, ◌>>=◌}
 use Rattle.cdr_codec.specs.Formats.{Format, read_each}
 use Rattle.cdr_codec.specs.Laws.{Took, IsNowhere, IsCodec, RefusesExactly, ReadsBack}
-use Rattle.cdr_codec.specs.Calls.{Gives, Fails, OnFault, Refuses}
+use Rattle.cdr_codec.specs.Calls.{Gives, Fails, FailsIn, Tells, OnFault, Refuses}
 use Rattle.cdr_codec.proofs.Steps.{done, with_reader, bind_goes, bind_stops, err_ok}
 use Rattle.cdr_codec.proofs.Sequences.{read_each-zero, read_each-suc}
 
@@ -40,6 +40,24 @@ pub is_refused : {W X Y E : Type 0} (short : W) (f : Format W Y) → IsCodec sho
     → Gives view wrong result (f.read r) after → Refuses wrong result (IsNowhere f.Spelled r)
 is_refused short f law view wrong (Ok x) r after h = tt
 is_refused short f law view wrong (Err e) r after h = nowhere_for short f law r (wrong e) h
+
+-- ---- calls that tell what a definition says
+
+tells_fault : {Y F : Type 0} (o : Option F) (what : Result Y F) (Q : Type 0) → ((e : F) → what ≡ Err e → Q) → FailsIn o what → OnFault o Q
+tells_fault None what Q h t = tt
+tells_fault (Some e) what Q h t = h e t
+
+-- what holds of each value that the definition gives holds of what the call answered
+pub told_found : {X Y E F : Type 0} (view : X → Y) (wrong : E → Option F) (result : Result X E) (what : Result Y F) (P : Y → Type 0)
+    → ((y : Y) → what ≡ Ok y → P y) → Tells view wrong result what → IfOk result (λ x. P (view x))
+told_found view wrong (Ok x) what P h t = h (view x) t
+told_found view wrong (Err e) what P h t = tt
+
+-- and what follows from each of its refusals holds where the call refused
+pub told_refused : {X Y E F : Type 0} (view : X → Y) (wrong : E → Option F) (result : Result X E) (what : Result Y F) (Q : Type 0)
+    → ((e : F) → what ≡ Err e → Q) → Tells view wrong result what → Refuses wrong result Q
+told_refused view wrong (Ok x) what Q h t = tt
+told_refused view wrong (Err e) what Q h t = tells_fault (wrong e) what Q h t
 
 -- what a callee in tail position ensures on Ok, carried on
 pub or_failed : {X E : Type 0} (result : Result X E) (P Q : Type 0) → OnOk result P → (P → Q) → OnOk result Q

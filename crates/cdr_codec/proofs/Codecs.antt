@@ -7,7 +7,7 @@ use Rattle.cdr_codec.specs.declared.orders.Order.{Order}
 use Rattle.cdr_codec.specs.declared.orders.Order.TheVariants.{Big, Little}
 use Rattle.cdr_codec.specs.declared.faults.CdrWhy.TheVariants.{Short}
 use Rattle.cdr_codec.specs.Reading.{Reader, reader_at, longer, Fault, fault_at, Read, ◌>>=◌, start, taken, number_in, digits_in, digits_at}
-use Rattle.cdr_codec.specs.Formats.{Format, SpellsNumber, written_number, number, SpellsOctets, octets, nothing, followed, judge, judged_at, judged, shaped}
+use Rattle.cdr_codec.specs.Formats.{Format, SpellsNumber, written_number, number, SpellsOctets, octets, nothing, followed, judge, judged_at, judged, shaped, in_order}
 use Rattle.cdr_codec.specs.Laws.{Moved, Took, IsCodec}
 use Rattle.cdr_codec.proofs.Steps.{done, failed, with_reader, bind_ok, bind_err, bind_goes, bind_stops, ok_is, ok_err, err_ok, err_is, moves, longer-after, longer-front, taken_found, taken_err, taken_again}
 
@@ -260,5 +260,31 @@ shaped_codec {W = W} {X = X} {Y = Y} short f to from back forth law =
       stands = λ r e more wrong other. elim (bind_err (f.read r) next e wrong) [
         | inl first ↦ bind_stops (f.read (longer r more)) next e (law.stands r e more first other)
         | inr went ↦ absurd (ok_err (with_reader (to went.0.0) went.0.1) e went.2)
+      ];
+    }
+
+-- ---- the same values, always in one byte order
+
+pub in_order_codec : {W X : Type 0} (short : W) (order : Order) (f : Format W X) → IsCodec short f → IsCodec short (in_order order f)
+in_order_codec {W = W} {X = X} short order f law =
+    let there : Reader → Reader = λ r. reader_at order r.place r.rest in
+    let next : Reader → X × Reader → Read W X = λ r x. Ok (x.0, reader_at r.order x.1.place x.1.rest) in
+    record {
+      found = λ r y e.
+          let a = bind_ok (f.read (there r)) (next r) y e in
+          let t = law.found (there r) a.0 a.1 in
+          let place-is : a.0.1.place ≡ r.place + length t.bytes = ap (λ (s : Reader). s.place) t.moved.at_end in
+          let got : Took (in_order order f).Spelled r (with_reader a.0.0 (reader_at r.order a.0.1.place a.0.1.rest)) = record {
+            bytes = t.bytes;
+            moved = record { is = t.moved.is; at_end = ap (λ (n : ℕ). reader_at r.order n a.0.1.rest) place-is };
+            spelled = t.spelled;
+          } in
+          subst (Took (in_order order f).Spelled r) (ok_is (with_reader a.0.0 (reader_at r.order a.0.1.place a.0.1.rest)) y a.2) got;
+      again = λ other place x bytes rest s.
+          bind_goes (f.read (reader_at order place (bytes ++ rest))) (next (reader_at other place (bytes ++ rest))) _ _ (law.again order place x bytes rest s) refl;
+      spells = λ other place x h. law.spells order place x h;
+      stands = λ r e more wrong other. elim (bind_err (f.read (there r)) (next r) e wrong) [
+        | inl first ↦ bind_stops (f.read (longer (there r) more)) (next (longer r more)) e (law.stands (there r) e more first other)
+        | inr went ↦ absurd (ok_err (with_reader went.0.0 (reader_at r.order went.0.1.place went.0.1.rest)) e went.2)
       ];
     }

@@ -1,14 +1,15 @@
 -- Parameters copied one behind the other.
 use Rattle.std.proofs.Common.{◌≡◌, List, [], ◌∷◌, ◌++◌, Some, Result, Ok, Err, refl, sym, ap, ◌∙◌, inl, inr}
 use Rattle.ft_base.specs.declared.requests.Par.{Par}
+use Rattle.ft_base.specs.declared.values.Value.{Value}
 use Rattle.cdr_codec.specs.declared.faults.CdrWhy.{CdrWhy}
 use Rattle.cdr_codec.specs.declared.faults.CdrWhy.TheVariants.{Short}
-use Rattle.cdr_codec.specs.declared.arguments.CopyFault.{CopyFault}
-use Rattle.cdr_codec.specs.declared.arguments.CopyFault.TheVariants as copies
+use Rattle.cdr_codec.specs.declared.faults.FieldFault.{FieldFault}
+use Rattle.cdr_codec.specs.declared.faults.FieldFault.TheVariants as copies
 use Rattle.cdr_codec.specs.Reading.{Reader, Fault, fault_at, Read, ◌>>=◌, start}
 use Rattle.cdr_codec.specs.Formats.{Format, judge}
 use Rattle.cdr_codec.specs.Calls.{Writer, appended, fault}
-use Rattle.cdr_codec.specs.Arguments.{Value, param, params}
+use Rattle.cdr_codec.specs.Arguments.{param, params}
 use Rattle.cdr_codec.specs.Copies.{copied, Copies}
 use Rattle.cdr_codec.proofs.Steps.{bind_err, bind_goes, bind_stops, ok_err}
 use Rattle.cdr_codec.proofs.Writing.{pair_written, nothing_written}
@@ -65,11 +66,11 @@ copied_append (par ∷ pars) more r w =
     ∙ ap (λ (q : Read CdrWhy Writer). q >>= then (params more)) (sym (copied_cons par pars r w))
 
 -- a copy behind another
-pub both_copied : {Y : Type 0} (pars more : List Par) (r s t : Reader) (w v u : Writer) (result : Result Y CopyFault)
+pub both_copied : {Y : Type 0} (pars more : List Par) (r s t : Reader) (w v u : Writer) (result : Result Y FieldFault)
     → copied (params pars) r w ≡ Ok (v, s) → Copies (params more) result s t v u → Copies (params (pars ++ more)) result r t w u
 both_copied pars more r s t w v u (Ok y) first second =
     copied_append pars more r w ∙ bind_goes (copied (params pars) r w) (then (params more)) _ _ first second
-both_copied pars more r s t w v u (Err (copies.Cdr e)) first second =
+both_copied pars more r s t w v u (Err (copies.Bad e)) first second =
     copied_err (params (pars ++ more)) r w (fault e)
     (copied_append pars more r w ∙ bind_goes (copied (params pars) r w) (then (params more)) _ _ first (bind_stops ((params more).read s) (put (params more) v) (fault e) second))
 both_copied pars more r s t w v u (Err copies.NoMemory) first second = tt

@@ -1,12 +1,16 @@
 pub mod Steps
 pub mod Codecs
 pub mod Sequences
+pub mod TaggedLaws
+pub mod StructLaws
 pub mod ValueLaws
 pub mod EncapsulationLaws
 pub mod ArgumentLaws
 pub mod Strings
 pub mod Writing
 pub mod CopyLaws
+pub mod Lengths
 pub mod BodyLaws
 pub mod CodecLaws
 pub mod Places
+pub mod ArgumentSizes

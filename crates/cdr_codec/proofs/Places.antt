@@ -1,15 +1,18 @@
 -- Reading never goes back: a fault has the place of the reader, or a later one.
 use Rattle.std.proofs.Common.{◌≡◌, ℕ, ◌+◌, ◌≤◌, List, [], ◌∷◌, ◌++◌, length, Option, Some, Ok, Err, refl, sym, ap, ◌∙◌, arith, inl, inr}
 use Rattle.ft_base.specs.Canonical.{padding}
+use Rattle.std.specs.Int.{w64, cast_signed, cast_unsigned}
 use Rattle.ft_base.specs.declared.requests.Par.{Par}
+use Rattle.ft_base.specs.declared.values.Value.{Value}
+use Rattle.ft_base.specs.declared.values.Value.TheVariants as values
 use Rattle.ft_base.specs.declared.requests.Par.TheVariants.{I64, U32, Bool as Truth, Text, Octets}
 use Rattle.cdr_codec.specs.declared.faults.CdrWhy.{CdrWhy}
 use Rattle.cdr_codec.specs.declared.faults.CdrWhy.TheVariants.{Short, BadBool, BadString}
 use Rattle.cdr_codec.specs.Reading.{Reader, Fault, fault_at, Read, start, taken, number_in, digits_at}
 use Rattle.cdr_codec.specs.Formats.{Format, number, octets, followed, judge, judged}
 use Rattle.cdr_codec.specs.Laws.{IsCodec}
-use Rattle.cdr_codec.specs.Values.{bool_of, bool_sign, boolean, text_of, text}
-use Rattle.cdr_codec.specs.Arguments.{Value, of_number, of_bool, of_text, of_octets, number_of, bool_in, bytes_of, param, first_and_rest, params, whole, whole_read, values_at}
+use Rattle.cdr_codec.specs.Values.{bool_of, bool_sign, boolean, text_of, text, signed}
+use Rattle.cdr_codec.specs.Arguments.{signed_of, number_of, bool_in, bytes_of, param, first_and_rest, params, whole, whole_read, values_read}
 use Rattle.cdr_codec.proofs.Steps.{with_reader, bind_err, ok_err, err_is, taken_cases}
 use Rattle.cdr_codec.proofs.Codecs.{judge_err, behind, pair}
 use Rattle.cdr_codec.proofs.ArgumentLaws.{param_codec, params_codec}
@@ -68,11 +71,11 @@ followed_forward short f g codec law laws = record {
 }
 
 param_forward : (par : Par) → IsForward (param par)
-param_forward I64 = judged_forward (number 8) 8 Short (λ n. Some (of_number n)) number_of (number_forward 8)
-param_forward U32 = judged_forward (number 4) 4 Short (λ n. Some (of_number n)) number_of (number_forward 4)
-param_forward Truth = judged_forward boolean 1 Short (λ b. Some (of_bool b)) bool_in (judged_forward (number 1) 1 BadBool bool_of bool_sign (number_forward 1))
-param_forward Text = judged_forward text 4 Short (λ t. Some (of_text t)) bytes_of (judged_forward octets 4 BadString text_of (λ t. t ++ 0 ∷ []) octets_forward)
-param_forward Octets = judged_forward octets 4 Short (λ xs. Some (of_octets xs)) bytes_of octets_forward
+param_forward I64 = judged_forward (signed w64) 8 Short (λ n. Some (values.I64 n)) signed_of (judged_forward (number 8) 8 Short (λ n. Some (cast_signed w64 n)) (cast_unsigned w64) (number_forward 8))
+param_forward U32 = judged_forward (number 4) 4 Short (λ n. Some (values.U32 n)) number_of (number_forward 4)
+param_forward Truth = judged_forward boolean 1 Short (λ b. Some (values.Bool b)) bool_in (judged_forward (number 1) 1 BadBool bool_of bool_sign (number_forward 1))
+param_forward Text = judged_forward text 4 Short (λ t. Some (values.Text t)) bytes_of (judged_forward octets 4 BadString text_of (λ t. t ++ 0 ∷ []) octets_forward)
+param_forward Octets = judged_forward octets 4 Short (λ xs. Some (values.Octets xs)) bytes_of octets_forward
 
 params_forward : (pars : List Par) → IsForward (params pars)
 params_forward [] = record { faults = λ r e wrong. absurd (ok_err (with_reader [] r) e wrong) }
@@ -96,5 +99,5 @@ stop_forward pars r (Err d) at e stops =
     omega arith
 
 -- reading stops at the reader's place or behind it
-pub values_forward : (pars : List Par) (r : Reader) (at : ℕ) → values_at r pars ≡ Err at → r.place ≤ at
+pub values_forward : (pars : List Par) (r : Reader) (at : ℕ) → values_read r pars ≡ Err at → r.place ≤ at
 values_forward pars r at stops = stop_forward pars r ((params pars).read r) at refl stops

@@ -3,12 +3,22 @@ use Rattle.std.specs.Prelude.{◌≡◌, ℕ, ◌+◌, List, [], ◌∷◌, ◌+
 use Rattle.cdr_codec.specs.declared.orders.Order.{Order}
 use Rattle.cdr_codec.specs.declared.faults.CdrWhy.{CdrWhy}
 use Rattle.cdr_codec.specs.declared.faults.CdrFault.{CdrFault}
+use Rattle.cdr_codec.specs.declared.faults.FieldFault.{FieldFault}
+use Rattle.cdr_codec.specs.declared.faults.FieldFault.TheVariants as fields
 use Rattle.cdr_codec.specs.Reading.{Reader, Fault, fault_at, Read}
 use Rattle.cdr_codec.specs.Formats.{Writing}
 
 -- the fault that a CdrFault is
 abbrev pub fault : CdrFault → Fault CdrWhy
 fault e = fault_at e.why e.place
+
+abbrev pub value_fault : CdrFault → Option (Fault CdrWhy)
+value_fault e = Some (fault e)
+
+-- the first value of a field that can't be read; none for want of memory
+abbrev pub field_fault : FieldFault → Option (Fault CdrWhy)
+field_fault (fields.Bad e) = Some (fault e)
+field_fault fields.NoMemory = None
 
 -- The call answered what is read there, seen by view, and went past it; or it answered the first
 -- fault, and the reader stands where it stood.
@@ -26,12 +36,22 @@ abbrev pub Gives : {W X Y E : Type 0} → (X → Y) → (E → Option (Fault W))
 Gives view wrong (Ok x) read new = read ≡ Ok (view x, new)
 Gives view wrong (Err e) read new = Fails (wrong e) read
 
+-- The same of a call that shows no reader: it answered this, seen by view, or what is wrong; nothing is
+-- said of want of memory.
+abbrev pub FailsIn : {X F : Type 0} → Option F → Result X F → Type 0
+FailsIn None what = Unit {0}
+FailsIn (Some wrong) what = what ≡ Err wrong
+
+abbrev pub Tells : {X Y E F : Type 0} → (X → Y) → (E → Option F) → Result X E → Result Y F → Type 0
+Tells view wrong (Ok x) what = what ≡ Ok (view x)
+Tells view wrong (Err e) what = FailsIn (wrong e) what
+
 -- a fact of each refusal that isn't want of memory
-abbrev pub OnFault : {W : Type 0} → Option (Fault W) → Type 0 → Type 0
+abbrev pub OnFault : {F : Type 0} → Option F → Type 0 → Type 0
 OnFault None P = Unit {0}
 OnFault (Some wrong) P = P
 
-abbrev pub Refuses : {W X E : Type 0} → (E → Option (Fault W)) → Result X E → Type 0 → Type 0
+abbrev pub Refuses : {X E F : Type 0} → (E → Option F) → Result X E → Type 0 → Type 0
 Refuses wrong (Ok x) P = Unit {0}
 Refuses wrong (Err e) P = OnFault (wrong e) P
 

@@ -4,19 +4,33 @@ use Rattle.cdr_codec.specs.declared.orders.Order.{Order}
 use Rattle.cdr_codec.specs.declared.orders.Order.TheVariants.{Big, Little}
 use Rattle.cdr_codec.specs.declared.faults.CdrWhy.{CdrWhy}
 use Rattle.cdr_codec.specs.declared.faults.CdrWhy.TheVariants.{Short, BadOrder}
+use Rattle.cdr_codec.specs.Orders.{order_sign}
 use Rattle.cdr_codec.specs.Reading.{Reader, reader_at, Fault, fault_at, Read, ◌>>=◌}
 use Rattle.cdr_codec.specs.Formats.{Spelling, Format}
 use Rattle.cdr_codec.specs.Calls.{Writer}
-
-abbrev pub order_sign : Order → ℕ
-order_sign Big = 0
-order_sign Little = 1
 
 -- the text of a writer that began an encapsulation
 pub record IsEncapsulated (w : Writer) : Type 0 where
   pub starts : w.place ≡ 0
   pub sign : slice_get w.text 0 ≡ Some (order_sign w.order)
   pub short : length w.text < 2 ^ 32
+
+-- the writer that began an encapsulation: its byte order is written
+abbrev pub begun : Order → Writer
+begun order = record { order = order; place = 0; text = order_sign order ∷ [] }
+
+-- the encapsulation of a value, in this byte order
+abbrev pub encapsulated : {X : Type 0} → Order → Format CdrWhy X → X → List ℕ
+encapsulated order f x = order_sign order ∷ f.written order 1 x
+
+-- the reader stands behind the byte order of the piece, which is its own
+pub record IsOpened (piece : List ℕ) (r : Reader) : Type 0 where
+  pub is : piece ≡ order_sign r.order ∷ r.rest
+  pub behind : r.place ≡ 1
+
+-- the piece begins with no byte order
+abbrev pub IsUnopened : List ℕ → Type 0
+IsUnopened piece = (r : Reader) → IsOpened piece r → ⊥
 
 -- the piece is a byte order, a spelling of the value, and whatever follows it
 pub record Encapsulates {X : Type 0} (spells : Spelling X) (piece : List ℕ) (x : X) : Type 0 where
@@ -38,6 +52,10 @@ opened (sign ∷ rest) = opened_in sign rest
 
 abbrev pub inside : {X : Type 0} → Format CdrWhy X → List ℕ → Read CdrWhy X
 inside f piece = opened piece >>= λ r. f.read r
+
+-- the value inside; more may follow it
+abbrev pub held : {X : Type 0} → Format CdrWhy X → List ℕ → Result X (Fault CdrWhy)
+held f piece = inside f piece >>= λ x. Ok x.0
 
 pub record IsInside {X : Type 0} (f : Format CdrWhy X) : Type 0 where
   -- what is read is spelled inside

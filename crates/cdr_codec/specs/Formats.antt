@@ -6,7 +6,8 @@ use Rattle.std.specs.List.{AllByRecursion}
 use Rattle.ft_base.specs.Canonical.{padding}
 use Rattle.cdr_codec.specs.declared.orders.Order.{Order}
 use Rattle.cdr_codec.specs.declared.faults.CdrWhy.{CdrWhy}
-use Rattle.cdr_codec.specs.Reading.{Reader, Fault, fault_at, Read, ◌>>=◌, start, taken, number_in, digits_in, digits_at}
+use Rattle.cdr_codec.specs.declared.faults.CdrWhy.TheVariants.{Short}
+use Rattle.cdr_codec.specs.Reading.{Reader, reader_at, Fault, fault_at, Read, ◌>>=◌, start, taken, number_in, digits_in, digits_at}
 
 -- the bytes, beginning at a place, spell the value
 abbrev pub Spelling : Type 0 → Type 1
@@ -170,3 +171,26 @@ lift up (Err e) = Err (fault_at (up e.why) e.place)
 
 abbrev pub lifted : {V W X : Type 0} → (V → W) → Format V X → Format W X
 lifted up f = record { Valid = f.Valid; Spelled = f.Spelled; written = f.written; read = λ r. lift up (f.read r) }
+
+-- ---- the same values, always in this byte order
+
+abbrev pub in_order : {W X : Type 0} → Order → Format W X → Format W X
+in_order order f = record {
+  Valid = f.Valid;
+  Spelled = λ other place x bytes. f.Spelled order place x bytes;
+  written = λ other place x. f.written order place x;
+  read = λ r. f.read (reader_at order r.place r.rest) >>= λ x. Ok (x.0, reader_at r.order x.1.place x.1.rest);
+}
+
+-- ---- an octet that may be anything, and is written as this one
+
+abbrev pub any_octet : ℕ → Format CdrWhy (Unit {0})
+any_octet n = judged (number 1) 1 Short (λ octet. Some tt) (λ u. n)
+
+-- ---- octets behind a number that says what they are: a profile, a component, a service context
+
+abbrev pub tagged : {X : Type 0} → (ℕ × List ℕ → X) → (X → ℕ × List ℕ) → Format CdrWhy X
+tagged to from = shaped (followed (number 4) (λ tag. octets)) to from
+
+abbrev pub all_tagged : {X : Type 0} → (ℕ × List ℕ → X) → (X → ℕ × List ℕ) → Format CdrWhy (List X)
+all_tagged to from = sequence (tagged to from)

@@ -1,3 +1,4 @@
+pub mod Orders
 pub mod Reading
 pub mod Formats
 pub mod Laws
@@ -6,3 +7,5 @@ pub mod Calls
 pub mod Encapsulations
 pub mod Arguments
 pub mod Copies
+pub mod Tagged
+pub mod Structs

@@ -1,108 +1,29 @@
-ghost use Rattle.std.specs.Prelude.{◌≡◌, ◌+◌, ◌<◌, ◌^◌, ◌++◌, length, IfOk};
-ghost use Rattle.ft_base.specs.Canonical.{IsCanonical, one_of};
-ghost use Rattle.ft_base.specs.declared.requests.Par.TheVariants as pars;
+//! Bodies and results, which hold values in any byte order, and their canonical form.
+ghost use Rattle.std.specs.Prelude.{◌≤◌, ◌≡◌, ◌+◌, ◌<◌, ◌^◌, length, IfOk, OnOk, IsOk, Ok};
+ghost use Rattle.ft_base.specs.Canonical.{IsCanonical, AreSpelledAs, one_of};
 ghost use Rattle.cdr_codec.specs.Reading.{reader_at};
-ghost use Rattle.cdr_codec.specs.Arguments.{body_reader, param, params, pars_of, IsFormOf, StopsAt, IsNoBody};
-ghost use Rattle.cdr_codec.specs.Copies.{Copies, FormsOf, IsArgs, OnBad};
+ghost use Rattle.cdr_codec.specs.Arguments.{body_reader, params, pars_of, IsFormOf, StopsAt, IsNoBody, reordered, IsReordered};
+ghost use Rattle.cdr_codec.specs.Copies.{copied, Copies, FormsOf, IsArgs, OnBad};
 
 use crate::bodies::{ArgsFault, Raw};
-use crate::faults::CdrFault;
+use crate::faults::FieldFault;
 use crate::orders::Order;
 use crate::readers::CdrReader;
+use crate::values::copy_value;
 use crate::writers::CdrWriter;
-use ft_base::{Bytes, NoMemory, Par, Signature};
+use ft_base::{Bytes, NoMemory, Par, Signature, canonical_forms_are_of_values};
 use std::alloc::Global;
-
-#[derive(Drop)]
-enum CopyFault {
-    Cdr(CdrFault),
-    NoMemory,
-}
-
-impl From<CdrFault> for CopyFault {
-    ghost use Rattle.std.specs.Prelude.{◌≡◌};
-    ghost use Rattle.cdr_codec.specs.declared.arguments.CopyFault.TheVariants as copies;
-
-    ghost from_gives = { λ fault e. e ≡ copies.Cdr fault };
-
-    fn from(fault: CdrFault) -> CopyFault {
-        CopyFault::Cdr(fault)
-    }
-}
-
-impl From<NoMemory> for CopyFault {
-    ghost use Rattle.std.specs.Prelude.{◌≡◌};
-    ghost use Rattle.cdr_codec.specs.declared.arguments.CopyFault.TheVariants as copies;
-
-    ghost from_gives = { λ _ e. e ≡ copies.NoMemory };
-
-    fn from(_error: NoMemory) -> CopyFault {
-        CopyFault::NoMemory
-    }
-}
-
-fn copy_i64(reader: &mut CdrReader, writer: &mut CdrWriter) -> Result<(), CopyFault>
-    ensures { Copies (param pars.I64) result reader.old reader.new writer.old writer.new }
-{
-    let number = reader.read_u64()?;
-    writer.write_u64(number)?;
-    Ok(())
-}
-
-fn copy_u32(reader: &mut CdrReader, writer: &mut CdrWriter) -> Result<(), CopyFault>
-    ensures { Copies (param pars.U32) result reader.old reader.new writer.old writer.new }
-{
-    let number = reader.read_u32()?;
-    writer.write_u32(number)?;
-    Ok(())
-}
-
-fn copy_bool(reader: &mut CdrReader, writer: &mut CdrWriter) -> Result<(), CopyFault>
-    ensures { Copies (param pars.Bool) result reader.old reader.new writer.old writer.new }
-{
-    let value = reader.read_bool()?;
-    writer.write_bool(value)?;
-    Ok(())
-}
-
-fn copy_text(reader: &mut CdrReader, writer: &mut CdrWriter) -> Result<(), CopyFault>
-    ensures { Copies (param pars.Text) result reader.old reader.new writer.old writer.new }
-{
-    let text = reader.read_string()?;
-    writer.write_string(text)?;
-    Ok(())
-}
-
-fn copy_octets(reader: &mut CdrReader, writer: &mut CdrWriter) -> Result<(), CopyFault>
-    ensures { Copies (param pars.Octets) result reader.old reader.new writer.old writer.new }
-{
-    let octets = reader.read_octets()?;
-    writer.write_octets(octets)?;
-    Ok(())
-}
-
-fn copy_par(par: Par, reader: &mut CdrReader, writer: &mut CdrWriter) -> Result<(), CopyFault>
-    ensures { Copies (param par) result reader.old reader.new writer.old writer.new }
-{
-    match par {
-        Par::I64 => copy_i64(reader, writer),
-        Par::U32 => copy_u32(reader, writer),
-        Par::Bool => copy_bool(reader, writer),
-        Par::Text => copy_text(reader, writer),
-        Par::Octets => copy_octets(reader, writer),
-    }
-}
 
 fn copy_one(
     par: Option<Par>,
     reader: &mut CdrReader,
     writer: &mut CdrWriter,
-) -> Result<(), CopyFault>
+) -> Result<(), FieldFault>
     ensures { Copies (params (one_of par)) result reader.old reader.new writer.old writer.new }
 {
     match par {
         None => Ok(()),
-        Some(par) => copy_par(par, reader, writer),
+        Some(par) => copy_value(par, reader, writer),
     }
 }
 
@@ -110,14 +31,18 @@ fn copy_both(
     signature: &Signature,
     reader: &mut CdrReader,
     writer: &mut CdrWriter,
-) -> Result<(), CopyFault>
+) -> Result<(), FieldFault>
     ensures { Copies (params (pars_of signature.now)) result reader.old reader.new writer.old writer.new }
 {
     copy_one(signature.first, reader, writer)?;
     copy_one(signature.second, reader, writer)
 }
 
-fn form_of(alloc: Global, signature: &Signature, reader: &mut CdrReader) -> Result<Bytes, CopyFault>
+fn form_of(
+    alloc: Global,
+    signature: &Signature,
+    reader: &mut CdrReader,
+) -> Result<Bytes, FieldFault>
     ensures { FormsOf (params (pars_of signature.now)) result reader.old reader.new }
 {
     let mut writer = CdrWriter::new(alloc, Order::Big, 0);
@@ -134,7 +59,7 @@ fn args_in(
 ) -> Result<Bytes, ArgsFault>
     requires { align + length input.now + 8 < 2 ^ 32 }
     ensures exact { IsArgs (reader_at order align input.now) (pars_of signature.now) result }
-    ensures canonical { IfOk result (λ args. IsCanonical (pars_of signature.now) args) }
+    ensures values { IfOk result (AreSpelledAs (pars_of signature.now) 0) }
 {
     // Reading never goes back, so no place is below this one.
     let start = align as u32;
@@ -147,8 +72,8 @@ fn args_in(
                 Err(ArgsFault::Bad(reader.place().saturating_sub(start)))
             }
         }
-        Err(CopyFault::Cdr(fault)) => Err(ArgsFault::Bad(fault.place.saturating_sub(start))),
-        Err(CopyFault::NoMemory) => Err(ArgsFault::NoMemory),
+        Err(FieldFault::Bad(fault)) => Err(ArgsFault::Bad(fault.place.saturating_sub(start))),
+        Err(FieldFault::NoMemory) => Err(ArgsFault::NoMemory),
     }
 }
 
@@ -157,10 +82,61 @@ fn args_in(
 pub fn args_of(alloc: Global, body: &Raw, signature: &Signature) -> Result<Bytes, ArgsFault>
     requires { body.now.align + length body.now.bytes + 8 < 2 ^ 32 }
     ensures found { IfOk result (λ args. IsFormOf args body.now (pars_of signature.now)) }
+    ensures sized { IfOk result (λ args. length args ≤ length body.now.bytes + 7) }
     ensures canonical { IfOk result (λ args. IsCanonical (pars_of signature.now) args) }
     ensures refused { OnBad result (λ place. IsNoBody body.now (pars_of signature.now)) }
     ensures place { OnBad result (StopsAt body.now (pars_of signature.now)) }
     ensures exact { IsArgs (body_reader body.now) (pars_of signature.now) result }
 {
+    canonical_forms_are_of_values();
     args_in(alloc, body.order, body.align, body.bytes.bytes(), signature)
+}
+
+/// The one that stands there, which can be read.
+fn copy_known(
+    par: Option<Par>,
+    reader: &mut CdrReader,
+    writer: &mut CdrWriter,
+) -> Result<(), NoMemory>
+    requires { IsOk ((params (one_of par)).read reader.old) }
+    ensures { OnOk result (copied (params (one_of par)) reader.old writer.old ≡ Ok (writer.new, reader.new)) }
+{
+    match copy_one(par, reader, writer) {
+        Ok(()) => Ok(()),
+        Err(FieldFault::NoMemory) => Err(NoMemory),
+        Err(FieldFault::Bad(_)) => unreachable!(),
+    }
+}
+
+fn result_exactly(
+    alloc: Global,
+    order: Order,
+    gives: Option<Par>,
+    value: &[u8],
+) -> Result<Bytes, NoMemory>
+    requires known { IsOk ((params (one_of gives)).read (reader_at Order.Big 0 value.now)) }
+    requires short { length value.now + 8 < 2 ^ 32 }
+    ensures { IfOk result (λ bytes. bytes ≡ reordered order (one_of gives) value.now) }
+{
+    let mut reader = CdrReader::new(Order::Big, 0, value);
+    let mut writer = CdrWriter::new(alloc, order, 0);
+    copy_known(gives, &mut reader, &mut writer)?;
+    Ok(writer.finish())
+}
+
+/// What an operation gave, from its canonical form into this byte order.
+pub fn result_in(
+    alloc: Global,
+    order: Order,
+    gives: Option<Par>,
+    value: &[u8],
+) -> Result<Bytes, NoMemory>
+    requires canonical { IsCanonical (one_of gives) value.now }
+    requires short { length value.now + 8 < 2 ^ 32 }
+    ensures value { IfOk result (λ bytes. bytes ≡ reordered order (one_of gives) value.now) }
+    ensures spelled { IfOk result (IsReordered order (one_of gives) value.now) }
+    ensures sized { IfOk result (λ bytes. length bytes ≡ length value.now) }
+{
+    canonical_forms_are_of_values();
+    result_exactly(alloc, order, gives, value)
 }

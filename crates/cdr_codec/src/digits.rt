@@ -5,7 +5,7 @@ ghost use Rattle.cdr_codec.specs.Reading.{number_in, digits_in};
 use crate::orders::Order;
 use byteorder::{BigEndian, ByteOrder, LittleEndian};
 
-pub fn number_of_1(order: Order, digits: &[u8]) -> u8
+pub fn number_of_u8(order: Order, digits: &[u8]) -> u8
     requires { length digits.now ≡ 1 }
     ensures { result ≡ number_in order 1 digits.now }
 {
@@ -15,7 +15,7 @@ pub fn number_of_1(order: Order, digits: &[u8]) -> u8
     }
 }
 
-pub fn number_of_2(order: Order, digits: &[u8]) -> u16
+pub fn number_of_u16(order: Order, digits: &[u8]) -> u16
     requires { length digits.now ≡ 2 }
     ensures { result ≡ number_in order 2 digits.now }
 {
@@ -25,7 +25,7 @@ pub fn number_of_2(order: Order, digits: &[u8]) -> u16
     }
 }
 
-pub fn number_of_4(order: Order, digits: &[u8]) -> u32
+pub fn number_of_u32(order: Order, digits: &[u8]) -> u32
     requires { length digits.now ≡ 4 }
     ensures { result ≡ number_in order 4 digits.now }
 {
@@ -35,7 +35,7 @@ pub fn number_of_4(order: Order, digits: &[u8]) -> u32
     }
 }
 
-pub fn number_of_8(order: Order, digits: &[u8]) -> u64
+pub fn number_of_u64(order: Order, digits: &[u8]) -> u64
     requires { length digits.now ≡ 8 }
     ensures { result ≡ number_in order 8 digits.now }
 {
@@ -45,7 +45,7 @@ pub fn number_of_8(order: Order, digits: &[u8]) -> u64
     }
 }
 
-pub fn digits_of_1(order: Order, n: u8) -> [u8; 1]
+pub fn digits_of_u8(order: Order, n: u8) -> [u8; 1]
     ensures { result ≡ digits_in order 1 n }
 {
     match order {
@@ -54,7 +54,7 @@ pub fn digits_of_1(order: Order, n: u8) -> [u8; 1]
     }
 }
 
-pub fn digits_of_2(order: Order, n: u16) -> [u8; 2]
+pub fn digits_of_u16(order: Order, n: u16) -> [u8; 2]
     ensures { result ≡ digits_in order 2 n }
 {
     match order {
@@ -63,7 +63,8 @@ pub fn digits_of_2(order: Order, n: u16) -> [u8; 2]
     }
 }
 
-pub fn digits_of_4(order: Order, n: u32) -> [u8; 4]
+/// The digits of an unsigned long, without padding.
+pub fn digits_of_u32(order: Order, n: u32) -> [u8; 4]
     ensures { result ≡ digits_in order 4 n }
 {
     match order {
@@ -72,7 +73,7 @@ pub fn digits_of_4(order: Order, n: u32) -> [u8; 4]
     }
 }
 
-pub fn digits_of_8(order: Order, n: u64) -> [u8; 8]
+pub fn digits_of_u64(order: Order, n: u64) -> [u8; 8]
     ensures { result ≡ digits_in order 8 n }
 {
     match order {

@@ -13,15 +13,25 @@ mod faults;
 mod laws;
 mod orders;
 mod readers;
+mod tagged;
 #[cfg(test)]
 mod tests;
+mod values;
 mod writers;
 
-pub use arguments::args_of;
+pub use arguments::{args_of, result_in};
 pub use bodies::{ArgsFault, Raw};
-pub use encapsulations::open_encapsulation;
-pub use faults::{CdrFault, CdrWhy};
-pub use laws::{values_are_codecs, values_are_read_back, values_are_refused_exactly};
+pub use digits::digits_of_u32;
+pub use encapsulations::{begin_encapsulation, open_encapsulation};
+pub use faults::{CdrFault, CdrWhy, FieldFault};
+pub use laws::{
+    canonical_forms_are_read, canonical_forms_are_written, padding_leads_to_multiples,
+    values_are_codecs, values_are_read_back, values_are_refused_exactly,
+};
 pub use orders::Order;
 pub use readers::CdrReader;
+pub use tagged::{
+    Tagged, all_tagged_are_codecs, read_all_tagged, read_tagged, write_all_tagged, write_tagged,
+};
+pub use values::{canonical, read_one, read_two, read_value, write_value};
 pub use writers::CdrWriter;

@@ -6,7 +6,7 @@ ghost use Rattle.cdr_codec.specs.Formats.{number, octets};
 ghost use Rattle.cdr_codec.specs.Values.{boolean, bool_of, text, text_of, signed};
 ghost use Rattle.cdr_codec.specs.Calls.{Reads};
 
-use crate::digits::{number_of_1, number_of_2, number_of_4, number_of_8};
+use crate::digits::{number_of_u8, number_of_u16, number_of_u32, number_of_u64};
 use crate::faults::{CdrFault, CdrWhy};
 use crate::orders::Order;
 use std::marker::Model;
@@ -106,8 +106,8 @@ impl<'a> CdrReader<'a> {
         }
     }
 
-    /// The place at which a value of this size begins.
-    fn start(&self, size: u32) -> u32
+    /// The place at which a value of this size begins, behind its padding.
+    pub fn start(&self, size: u32) -> u32
         requires some { 0 < size }
         requires small { size ≤ 8 }
         ensures value { result ≡ start size self.now.place }
@@ -152,7 +152,7 @@ impl<'a> CdrReader<'a> {
     {
         let order = self.order();
         let digits = self.digits(1)?;
-        Ok(number_of_1(order, digits))
+        Ok(number_of_u8(order, digits))
     }
 
     /// An unsigned short.
@@ -161,7 +161,7 @@ impl<'a> CdrReader<'a> {
     {
         let order = self.order();
         let digits = self.digits(2)?;
-        Ok(number_of_2(order, digits))
+        Ok(number_of_u16(order, digits))
     }
 
     /// An unsigned long.
@@ -170,7 +170,7 @@ impl<'a> CdrReader<'a> {
     {
         let order = self.order();
         let digits = self.digits(4)?;
-        Ok(number_of_4(order, digits))
+        Ok(number_of_u32(order, digits))
     }
 
     /// An unsigned long long.
@@ -179,7 +179,7 @@ impl<'a> CdrReader<'a> {
     {
         let order = self.order();
         let digits = self.digits(8)?;
-        Ok(number_of_8(order, digits))
+        Ok(number_of_u64(order, digits))
     }
 
     /// A short.

@@ -1,9 +1,12 @@
 ghost use Rattle.std.specs.Prelude.{◌<◌, length};
+ghost use Rattle.ft_base.specs.Canonical.{HasSpelling};
 
 use crate::{
-    ArgsFault, CdrFault, CdrReader, CdrWhy, CdrWriter, Order, Raw, args_of, open_encapsulation,
+    ArgsFault, CdrFault, CdrReader, CdrWhy, CdrWriter, FieldFault, Order, Raw, Tagged, args_of,
+    begin_encapsulation, canonical, open_encapsulation, read_all_tagged, read_one, read_two,
+    result_in, write_all_tagged,
 };
-use ft_base::{Bytes, NoMemory, Par, Signature};
+use ft_base::{Bytes, NoMemory, Par, Signature, Value};
 use std::alloc::Global;
 use std::test::Fail;
 
@@ -189,11 +192,67 @@ fn encapsulations_begin_with_an_order(rt: HostRuntime) {
     }
 }
 
+// Bit 0 of the flags alone counts.
+#[test]
+fn flags_name_an_order(rt: HostRuntime) {
+    for flags in [0, 2, 4, 0xfe] {
+        assert!(rt; Order::of_flags(flags) == Order::Big);
+        assert!(rt; Order::of_flags(flags + 1) == Order::Little);
+    }
+}
+
+#[derive(Drop)]
+struct Component {
+    tag: u32,
+    content: Bytes,
+}
+
+impl Tagged for Component {
+    ghost use Rattle.std.specs.Prelude.{refl};
+
+    ghost made = { λ x. record { tag = x.0; content = x.1 } };
+
+    ghost parts = { λ one. (one.tag, one.content) };
+
+    fn behind(tag: u32, content: Bytes) -> Component {
+        Component { tag, content }
+    }
+
+    fn tag(&self) -> u32 {
+        self.tag
+    }
+
+    fn content(&self) -> &[u8] {
+        self.content.bytes()
+    }
+
+    ghost kept = { λ x. refl };
+
+    ghost whole = { λ one. refl };
+}
+
+// A count is not believed for memory: the first component that isn't there ends the reading.
+#[test]
+fn components_are_read_and_written(rt: HostRuntime) -> Result<(), Fail> {
+    let two = b"\0\0\0\x02\0\0\0\x1b\0\0\0\x01!\0\0\0\0\0\0\x1c\0\0\0\0".as_slice();
+    let mut reader = CdrReader::new(Order::Big, 0, two);
+    let read: Result<Vec<Component>, FieldFault> = read_all_tagged(rt.alloc(), &mut reader);
+    let components = read?;
+    assert_eq!(rt; components.len(), 2);
+    assert!(rt; reader.rest().is_empty());
+    let mut writer = CdrWriter::new(rt.alloc(), Order::Big, 0);
+    write_all_tagged(components.as_slice(), &mut writer)?;
+    assert_eq!(rt; writer.bytes(), two);
+    let mut reader = CdrReader::new(Order::Big, 0, b"\xff\xff\xff\xff\0\0\0\x1b\0\0\0\0");
+    let read: Result<Vec<Component>, FieldFault> = read_all_tagged(rt.alloc(), &mut reader);
+    assert!(rt; read.err() == Some(FieldFault::Bad(fault(CdrWhy::Short, 12))));
+    Ok(())
+}
+
 // A request's context: the client's id, the retention number and the expiration.
 #[test]
 fn an_encapsulation_is_written(rt: HostRuntime) -> Result<(), Fail> {
-    let mut inner = CdrWriter::new(rt.alloc(), Order::Big, 0);
-    assert_eq!(rt; inner.write_octet(0), Ok(()));
+    let mut inner = begin_encapsulation(rt.alloc(), Order::Big)?;
     assert_eq!(rt; inner.write_string(b"ann"), Ok(()));
     assert_eq!(rt; inner.write_i32(1), Ok(()));
     assert_eq!(rt; inner.write_u64(1000), Ok(()));
@@ -208,6 +267,9 @@ fn an_encapsulation_is_written(rt: HostRuntime) -> Result<(), Fail> {
         writer.bytes(),
         b"\0\0\x18\0\0\0\0\0\0\0\0\0\0\x04ann\0\0\0\0\x01\0\0\0\0\0\0\x03\xe8\x01\0\0\0!".as_slice()
     );
+    let mut little = begin_encapsulation(rt.alloc(), Order::Little)?;
+    assert_eq!(rt; little.write_u32(7), Ok(()));
+    assert_eq!(rt; little.bytes(), b"\x01\0\0\0\x07\0\0\0".as_slice());
     Ok(())
 }
 
@@ -235,17 +297,6 @@ fn a_text_is_taken_back(rt: HostRuntime) {
     writer.truncate(1);
     assert_eq!(rt; writer.write_octets(b"x"), Ok(()));
     assert_eq!(rt; writer.bytes(), b"\x01\0\0\0\x01\0\0\0x".as_slice());
-}
-
-// The body of a system exception: its repository id, its minor code and its completion status.
-#[test]
-fn a_system_exception_is_read(rt: HostRuntime) {
-    let body = b"\0\0\0\x20IDL:omg.org/CORBA/TRANSIENT:1.0\0\0\0\0\x01\0\0\0\x01";
-    let mut reader = CdrReader::new(Order::Big, 0, body);
-    assert!(rt; reader.read_string() == Ok(b"IDL:omg.org/CORBA/TRANSIENT:1.0"));
-    assert_eq!(rt; reader.read_u32(), Ok(1));
-    assert_eq!(rt; reader.read_u32(), Ok(1));
-    assert!(rt; reader.rest().is_empty());
 }
 
 fn args(alloc: Global, order: Order, align: u8, body: &[u8]) -> Result<Bytes, ArgsFault>
@@ -301,4 +352,52 @@ fn other_bodies_are_refused_at_their_place(rt: HostRuntime) {
         let given = args(rt.alloc(), Order::Big, align, body);
         assert_eq!(rt; given.err(), Some(ArgsFault::Bad(place)));
     }
+}
+
+fn stands_as(alloc: Global, value: &Value, big: &[u8], little: &[u8]) -> Result<bool, NoMemory>
+    requires { HasSpelling value.now }
+{
+    let par = value.par();
+    let form = canonical(alloc, std::slice::from_ref(value))?;
+    if form.bytes() != big || form.bytes().len() > 64 {
+        return Ok(false);
+    }
+    let turned = result_in(alloc, Order::Little, Some(par), form.bytes())?;
+    let again = read_one(alloc, par, form.bytes())?;
+    Ok(turned.bytes() == little && again.par() == par)
+}
+
+#[test]
+fn values_stand_in_either_order(rt: HostRuntime) -> Result<(), Fail> {
+    let alloc = rt.alloc();
+    let text = Value::Text(Bytes::of(alloc, b"ab")?);
+    let octets = Value::Octets(Bytes::of(alloc, b"\0")?);
+    let number = b"\xff\xff\xff\xff\xff\xff\xff\xfe";
+    assert!(rt;
+        stands_as(
+            alloc,
+            &Value::I64(-2),
+            number,
+            b"\xfe\xff\xff\xff\xff\xff\xff\xff"
+        )?
+    );
+    assert!(rt; stands_as(alloc, &Value::U32(258), b"\0\0\x01\x02", b"\x02\x01\0\0")?);
+    assert!(rt; stands_as(alloc, &Value::Bool(true), b"\x01", b"\x01")?);
+    assert!(rt; stands_as(alloc, &text, b"\0\0\0\x03ab\0", b"\x03\0\0\0ab\0")?);
+    assert!(rt; stands_as(alloc, &octets, b"\0\0\0\x01\0", b"\x01\0\0\0\0")?);
+    Ok(())
+}
+
+// The second stands at a multiple of its own size.
+#[test]
+fn two_values_are_read(rt: HostRuntime) -> Result<(), Fail> {
+    let alloc = rt.alloc();
+    let form = canonical(alloc, &[Value::Bool(true), Value::I64(i64::MIN)])?;
+    let expected = b"\x01\0\0\0\0\0\0\0\x80\0\0\0\0\0\0\0".as_slice();
+    assert!(rt; form.bytes() == expected);
+    match read_two(alloc, Par::Bool, Par::I64, form.bytes())? {
+        (Value::Bool(flag), Value::I64(number)) => assert!(rt; flag && number == i64::MIN),
+        _ => assert!(rt; false, "other values"),
+    }
+    Ok(())
 }

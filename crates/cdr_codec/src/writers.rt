@@ -7,7 +7,7 @@ ghost use Rattle.cdr_codec.specs.Values.{boolean, text, signed};
 ghost use Rattle.cdr_codec.specs.Calls.{appended};
 ghost use Rattle.cdr_codec.specs.Encapsulations.{IsEncapsulated};
 
-use crate::digits::{digits_of_1, digits_of_2, digits_of_4, digits_of_8};
+use crate::digits::{digits_of_u8, digits_of_u16, digits_of_u32, digits_of_u64};
 use crate::orders::Order;
 use ft_base::{Bytes, NoMemory};
 use std::alloc::Global;
@@ -30,13 +30,27 @@ impl Model for CdrWriter {
     ghost view = { λ w. record { order = w.order; place = w.place; text = w.text.items } };
 }
 
-static ZEROS: [u8; 8] = [0; 8];
-
-fn zeros(count: usize) -> &'static [u8]
-    requires { count ≤ 8 }
-    ensures { result.now ≡ replicate count 0 }
+/// Zeros, and then the digits of a number, at the front of what is given.
+fn padded(skip: usize, digits: &[u8]) -> [u8; 16]
+    requires skips { skip ≤ 8 }
+    requires numbers { length digits.now ≤ 8 }
+    ensures { take (skip + length digits.now) result ≡ replicate skip 0 ++ digits.now }
 {
-    &ZEROS[..count]
+    let mut field = [0; 16];
+    field[skip..skip + digits.len()].copy_from_slice(digits);
+    field
+}
+
+/// A number at the end of the text: zeros, and then its digits.
+fn put_digits(text: &mut Vec<u8>, skip: usize, digits: &[u8]) -> Result<(), NoMemory>
+    requires skips { skip ≤ 8 }
+    requires numbers { length digits.now ≤ 8 }
+    ensures written { OnOk result (text.new.items ≡ text.old.items ++ replicate skip 0 ++ digits.now) }
+    ensures left { OnErr result (text.new.items ≡ text.old.items) }
+{
+    let field = padded(skip, digits);
+    text.extend_from_slice(&field[..skip + digits.len()])?;
+    Ok(())
 }
 
 /// A field of the text: zeros, then the digits of a number, then octets and what ends them.
@@ -55,8 +69,9 @@ fn put(
     ensures left { OnErr result (text.new.items ≡ text.old.items) }
 {
     text.reserve(skip + digits.len() + octets.len() + ending.len())?;
-    text.extend_from_slice(zeros(skip)).unwrap();
-    text.extend_from_slice(digits).unwrap();
+    let field = padded(skip, digits);
+    text.extend_from_slice(&field[..skip + digits.len()])
+        .unwrap();
     text.extend_from_slice(octets).unwrap();
     text.extend_from_slice(ending).unwrap();
     Ok(())
@@ -107,6 +122,17 @@ impl CdrWriter {
         self.text.truncate(length);
     }
 
+    /// How many zeros lead to a multiple of this size.
+    fn skip(&self, size: usize) -> usize
+        requires some { 0 < size }
+        requires small { size ≤ 8 }
+        ensures value { result ≡ padding (self.now.place + length self.now.text) size }
+        ensures small { result ≤ 8 }
+    {
+        let place = self.place as usize + self.text.len();
+        (size - place % size) % size
+    }
+
     fn put(
         &mut self,
         size: usize,
@@ -122,8 +148,7 @@ impl CdrWriter {
         ensures written { OnOk result (self.new ≡ record self.old { text = self.old.text ++ replicate (padding (self.old.place + length self.old.text) size) 0 ++ digits.now ++ octets.now ++ ending.now }) }
         ensures left { OnErr result (self.new ≡ self.old) }
     {
-        let place = self.place as usize + self.text.len();
-        let skip = (size - place % size) % size;
+        let skip = self.skip(size);
         put(&mut self.text, skip, digits, octets, ending)
     }
 
@@ -134,7 +159,8 @@ impl CdrWriter {
         ensures written { OnOk result (self.new ≡ appended (λ order place n. replicate (padding place size) 0 ++ digits.now) digits.now self.old) }
         ensures left { OnErr result (self.new ≡ self.old) }
     {
-        self.put(size, digits, &[], &[])
+        let skip = self.skip(size);
+        put_digits(&mut self.text, skip, digits)
     }
 
     /// An octet.
@@ -142,7 +168,7 @@ impl CdrWriter {
         ensures written { OnOk result (self.new ≡ appended (number 1).written n self.old) }
         ensures left { OnErr result (self.new ≡ self.old) }
     {
-        let digits = digits_of_1(self.order(), n);
+        let digits = digits_of_u8(self.order(), n);
         self.put_number(1, &digits)
     }
 
@@ -151,7 +177,7 @@ impl CdrWriter {
         ensures written { OnOk result (self.new ≡ appended (number 2).written n self.old) }
         ensures left { OnErr result (self.new ≡ self.old) }
     {
-        let digits = digits_of_2(self.order(), n);
+        let digits = digits_of_u16(self.order(), n);
         self.put_number(2, &digits)
     }
 
@@ -160,7 +186,7 @@ impl CdrWriter {
         ensures written { OnOk result (self.new ≡ appended (number 4).written n self.old) }
         ensures left { OnErr result (self.new ≡ self.old) }
     {
-        let digits = digits_of_4(self.order(), n);
+        let digits = digits_of_u32(self.order(), n);
         self.put_number(4, &digits)
     }
 
@@ -169,7 +195,7 @@ impl CdrWriter {
         ensures written { OnOk result (self.new ≡ appended (number 8).written n self.old) }
         ensures left { OnErr result (self.new ≡ self.old) }
     {
-        let digits = digits_of_8(self.order(), n);
+        let digits = digits_of_u64(self.order(), n);
         self.put_number(8, &digits)
     }
 
@@ -211,7 +237,7 @@ impl CdrWriter {
         ensures written { OnOk result (self.new ≡ appended octets.written content.now self.old) }
         ensures left { OnErr result (self.new ≡ self.old) }
     {
-        let digits = digits_of_4(self.order(), content.len() as u32);
+        let digits = digits_of_u32(self.order(), content.len() as u32);
         self.put(4, &digits, content, &[])
     }
 
@@ -222,7 +248,7 @@ impl CdrWriter {
         ensures written { OnOk result (self.new ≡ appended text.written string.now self.old) }
         ensures left { OnErr result (self.new ≡ self.old) }
     {
-        let digits = digits_of_4(self.order(), string.len() as u32 + 1);
+        let digits = digits_of_u32(self.order(), string.len() as u32 + 1);
         self.put(4, &digits, string, &[0])
     }
 

@@ -2,6 +2,7 @@
 use Rattle.std.proofs.Common.{◌≡◌, ℕ, ◌+◌, ◌<◌, ◌^◌, ◌&&◌, ◌∙◌, Bool, true, false, List, [], ◌∷◌, ◌++◌, length, length-append, append_assoc, append-nil, Option, Some, None, arith, nat_lt, sym, ap, subst, cond, refl}
 use Rattle.std.specs.Prelude.{ℤ, pos, negsuc, option_map, option_and_then, is_none, codes}
 use Rattle.std.specs.Int.{cast_unsigned, w64}
+use Rattle.std.specs.Int.RustNames.{FitsSigned}
 use Rattle.std.specs.Result.{result_ok}
 use Rattle.std.specs.Str.{bytes_eq}
 use Rattle.std.proofs.lemmas.Bool.{and_parts, ltb-true}
@@ -11,7 +12,7 @@ use Rattle.ft_base.specs.Canonical.{number_at, text_at, octets_at, IsValueAt, Ar
 use Rattle.ft_base.specs.declared.requests.Par.{Par}
 use Rattle.ft_base.specs.declared.requests.Par.TheVariants.{I64, U32, Bool as Boolean, Text, Octets}
 use Rattle.fault_script.specs.Numbers.{number, decimal, is_within, within, signed_64, below, unsigned_32}
-use Rattle.fault_script.specs.Arguments.{Given, text_of, counted, octets_of, argument, argument_from, arguments}
+use Rattle.fault_script.specs.Arguments.{ArgumentState, text_of, countable, octets_of, argument, argument_from, arguments}
 
 -- the value under a map, and under a chain
 mapped : {X Y : Type 0} (f : X → Y) (from : Option X) (y : Y) → option_map f from ≡ Some y → (x : X) × (from ≡ Some x) × (f x ≡ y)
@@ -26,15 +27,15 @@ chosen : {X : Type 0} (b : Bool) (value wanted : X) → cond b (Some value) None
 chosen true value wanted e = let same : value ≡ wanted = cc in (refl, same)
 chosen false value wanted e = cc
 
-bits_fit : (value : ℤ) → is_within (2 ^ 63) value ≡ true → cast_unsigned w64 value < 2 ^ 64
+bits_fit : (value : ℤ) → is_within (2 ^ 63) value ≡ true → FitsSigned w64 value
 bits_fit (pos n) e = let small = ltb-true n (2 ^ 63) e in omega arith
-bits_fit (negsuc n) e = omega arith
+bits_fit (negsuc n) e = let small = ltb-true n (2 ^ 63) e in omega arith
 
-i64_fits : (word : List ℕ) (value : ℤ) → signed_64 word ≡ Some value → cast_unsigned w64 value < 2 ^ 64
+i64_fits : (word : List ℕ) (value : ℤ) → signed_64 word ≡ Some value → FitsSigned w64 value
 i64_fits word value e =
     let read = chained (within (2 ^ 63)) (decimal word) value e in
     let ranged = chosen (is_within (2 ^ 63) read.0) read.0 value read.2 in
-    bits_fit value (subst (λ (z : ℤ). is_within (2 ^ 63) z ≡ true) ranged.1 ranged.0)
+    subst (λ (z : ℤ). FitsSigned w64 z) ranged.1 (bits_fit read.0 ranged.0)
 
 u32_fits : (word : List ℕ) (value : ℕ) → unsigned_32 word ≡ Some value → value < 2 ^ 32
 u32_fits word value e =
@@ -53,20 +54,20 @@ text_fits word text e =
     subst (λ (t : List ℕ). (zero_place t ≡ None) × (length t + 1 < 2 ^ 32)) read.1
     (no_place (zero_place word) parts.1, ltb-true (length word + 1) (2 ^ 32) parts.0)
 
-counted_fits : (octets value : List ℕ) → counted octets ≡ Some value → length value < 2 ^ 32
+counted_fits : (octets value : List ℕ) → countable octets ≡ Some value → length value < 2 ^ 32
 counted_fits octets value e =
     let read = chosen (nat_lt (length octets) (2 ^ 32)) octets value e in
     subst (λ (o : List ℕ). length o < 2 ^ 32) read.1 (ltb-true (length octets) (2 ^ 32) read.0)
 
-octets_case : (b : Bool) (word value : List ℕ) → cond b (Some []) (option_and_then counted (result_ok (decode_of word))) ≡ Some value → length value < 2 ^ 32
+octets_case : (b : Bool) (word value : List ℕ) → cond b (Some []) (option_and_then countable (result_ok (decode_of word))) ≡ Some value → length value < 2 ^ 32
 octets_case true word value e = let same : [] ≡ value = cc in subst (λ (o : List ℕ). length o < 2 ^ 32) same (omega arith)
-octets_case false word value e = let read = chained counted (result_ok (decode_of word)) value e in counted_fits read.0 value read.2
+octets_case false word value e = let read = chained countable (result_ok (decode_of word)) value e in counted_fits read.0 value read.2
 
 -- what a word gives is the spelling of a value of the parameter's type
 argument_is_value : (par : Par) (place : ℕ) (word value : List ℕ) → argument par place word ≡ Some value → IsValueAt par place value
 argument_is_value I64 place word value e =
     let read = mapped (λ (z : ℤ). number_at 8 place (cast_unsigned w64 z)) (signed_64 word) value e in
-    (cast_unsigned w64 read.0, i64_fits word read.0 read.1, sym read.2)
+    (read.0, i64_fits word read.0 read.1, sym read.2)
 argument_is_value U32 place word value e =
     let read = mapped (number_at 4 place) (unsigned_32 word) value e in
     (read.0, u32_fits word read.0 read.1, sym read.2)
@@ -74,24 +75,24 @@ argument_is_value Boolean place word value e = cc
 argument_is_value Text place word value e =
     let read = mapped (text_at place) (text_of word) value e in
     let fits = text_fits word read.0 read.1 in
-    (read.0, fits.0, fits.1, sym read.2)
+    (read.0, fits, sym read.2)
 argument_is_value Octets place word value e =
     let read = mapped (octets_at place) (octets_of word) value e in
     (read.0, octets_case (bytes_eq word (codes "-")) word read.0 read.1, sym read.2)
 
 -- some bytes more, which are the values of these types
-abbrev Appends : List Par → Given → Given → Type 0
+abbrev Appends : List Par → ArgumentState → ArgumentState → Type 0
 Appends pars given after =
     (front : List ℕ) × (after.bytes ≡ given.bytes ++ front) × AreValuesAt pars (length given.bytes) front
 
-argument_appends : (par : Par) (bytes : List ℕ) (rest : List (List ℕ)) (mid : Given) → argument_from par bytes rest ≡ Some mid
+argument_appends : (par : Par) (bytes : List ℕ) (rest : List (List ℕ)) (mid : ArgumentState) → argument_from par bytes rest ≡ Some mid
     → (value : List ℕ) × (mid.bytes ≡ bytes ++ value) × IsValueAt par (length bytes) value
 argument_appends par bytes [] mid e = cc
 argument_appends par bytes (word ∷ rest) mid e =
-    let read = mapped (λ (v : List ℕ). let given : Given = record { bytes = bytes ++ v; rest = rest } in given) (argument par (length bytes) word) mid e in
-    (read.0, ap (λ (g : Given). g.bytes) (sym read.2), argument_is_value par (length bytes) word read.0 read.1)
+    let read = mapped (λ (v : List ℕ). let given : ArgumentState = record { bytes = bytes ++ v; rest = rest } in given) (argument par (length bytes) word) mid e in
+    (read.0, ap (λ (g : ArgumentState). g.bytes) (sym read.2), argument_is_value par (length bytes) word read.0 read.1)
 
-joined : (par : Par) (pars : List Par) (bytes value back end : List ℕ) (mid : Given) → mid.bytes ≡ bytes ++ value → end ≡ mid.bytes ++ back
+joined : (par : Par) (pars : List Par) (bytes value back end : List ℕ) (mid : ArgumentState) → mid.bytes ≡ bytes ++ value → end ≡ mid.bytes ++ back
     → IsValueAt par (length bytes) value → AreValuesAt pars (length mid.bytes) back
     → (front : List ℕ) × (end ≡ bytes ++ front) × AreValuesAt (par ∷ pars) (length bytes) front
 joined par pars bytes value back end mid here there is_value are_values =
@@ -101,10 +102,10 @@ joined par pars bytes value back end mid here there is_value are_values =
       (value, back, refl, is_value, subst (λ (n : ℕ). AreValuesAt pars n back) place are_values),
     )
 
-arguments_append : (pars : List Par) (given after : Given) → arguments pars given ≡ Some after → Appends pars given after
+arguments_append : (pars : List Par) (given after : ArgumentState) → arguments pars given ≡ Some after → Appends pars given after
 arguments_append [] given after e =
     let same : given ≡ after = cc in
-    ([], ap (λ (g : Given). g.bytes) (sym same) ∙ sym (append-nil given.bytes), refl)
+    ([], ap (λ (g : ArgumentState). g.bytes) (sym same) ∙ sym (append-nil given.bytes), refl)
 arguments_append (par ∷ pars) given after e =
     let step = chained (arguments pars) (argument_from par given.bytes given.rest) after e in
     let here = argument_appends par given.bytes given.rest step.0 step.1 in
@@ -112,7 +113,7 @@ arguments_append (par ∷ pars) given after e =
     joined par pars given.bytes here.0 there.0 after.bytes step.0 here.1 there.1 here.2 there.2
 
 -- arguments from the first byte on are in canonical form
-pub arguments_canonical : (pars : List Par) (words : List (List ℕ)) (after : Given)
+pub arguments_canonical : (pars : List Par) (words : List (List ℕ)) (after : ArgumentState)
     → arguments pars (record { bytes = []; rest = words }) ≡ Some after → IsCanonical pars after.bytes
 arguments_canonical pars words after e =
     let all = arguments_append pars (record { bytes = []; rest = words }) after e in

@@ -2,7 +2,7 @@
 use Rattle.std.proofs.Common.{◌≡◌, ℕ, ◌≤◌, ◌∙◌, Bool, true, false, List, length, Option, Some, None, Result, Ok, Err, nat_lt, subst, cond}
 use Rattle.std.specs.Prelude.{IfOk, IfSome}
 use Rattle.fault_script.specs.Words.{words}
-use Rattle.fault_script.specs.Faults.{Answers}
+use Rattle.fault_script.specs.Faults.{IsAnswer}
 use Rattle.fault_script.specs.Forms.{parse_words, parse}
 use Rattle.fault_script.specs.Grammar.{Spells}
 use Rattle.fault_script.proofs.GrammarLemmas.{read_is_spelled}
@@ -21,12 +21,12 @@ some_spelled text None e = tt
 some_spelled text (Some line) e =
     read_is_spelled (words text) line (not_long (nat_lt 4096 (length text)) (parse_words (words text)) line e)
 
-pub answer_spelled : (text : List ℕ) (answer : Result (Option Line) LineFault) → Answers answer (parse text) → IfOk answer (λ read. IfSome read (Spells (words text)))
+pub answer_spelled : (text : List ℕ) (answer : Result (Option Line) LineFault) → IsAnswer answer (parse text) → IfOk answer (λ read. IfSome read (Spells (words text)))
 answer_spelled text (Ok read) e = some_spelled text read e
 answer_spelled text (Err fault) e = tt
 
-pub spelled_answer : (text : List ℕ) (answer : Result (Option Line) LineFault) → Answers answer (parse text)
-    → (line : Line) → length text ≤ 4096 → Spells (words text) line → Answers answer (Ok (Some line))
+pub spelled_answer : (text : List ℕ) (answer : Result (Option Line) LineFault) → IsAnswer answer (parse text)
+    → (line : Line) → length text ≤ 4096 → Spells (words text) line → IsAnswer answer (Ok (Some line))
 spelled_answer text answer e line short spelled =
-    subst (λ (wanted : Result (Option Line) LineFault). Answers answer wanted)
+    subst (λ (wanted : Result (Option Line) LineFault). IsAnswer answer wanted)
     (parse-short text short ∙ spelled_is_read (words text) line spelled) e

@@ -28,8 +28,8 @@ number_is false word value kept test e = cc
 group_read : (name digits : List ℕ) (member : ℕ) → is_script_name name ≡ true → IsNumber digits member
     → group_line (name ∷ codes "account" ∷ codes "cold" ∷ digits ∷ []) ≡ Ok (lines.Group name member)
 group_read name digits member named is_member =
-    let counted = number_is (is_number digits) digits (digits_value 10 digits) is_member.0 refl is_member.1 in
-    let form : is_group_form name (codes "account") (codes "cold") (digits ∷ []) ≡ true = rw (named, counted) refl in
+    let countable = number_is (is_number digits) digits (digits_value 10 digits) is_member.0 refl is_member.1 in
+    let form : is_group_form name (codes "account") (codes "cold") (digits ∷ []) ≡ true = rw (named, countable) refl in
     ap (λ (b : Bool). cond b (member_of name (number digits)) (Err Syntax)) form
     ∙ ap (member_of name) is_member.1 ∙ ap (λ (m : ℕ). Ok (lines.Group name m)) (sym is_member.2)
 

@@ -5,12 +5,12 @@ use Rattle.fault_script.specs.declared.lines.LimitName.TheVariants as limits
 use Rattle.fault_script.specs.declared.lines.LineFault.{LineFault}
 use Rattle.fault_script.specs.declared.lines.LineFault.TheVariants as faults
 
--- it answers this, or that there is no memory
-abbrev pub Answers : {X : Type 0} → Result X LineFault → Result X LineFault → Type 0
-Answers answer wanted =
+-- a call that takes memory answers what is wanted, or that there is no memory
+abbrev pub IsAnswer : {X : Type 0} → Result X LineFault → Result X LineFault → Type 0
+IsAnswer answer wanted =
     MatchResult answer (λ value. wanted ≡ Ok value) (λ fault. (fault ≡ faults.NoMemory) ⊎ (wanted ≡ Err fault))
 
--- what is printed of a fault
+-- what is printed of a limit
 abbrev pub limit_text : LimitName → List ℕ
 limit_text limits.Script = codes "script"
 limit_text limits.Line = codes "line"
@@ -23,6 +23,7 @@ limit_text limits.Messages = codes "messages"
 limit_text limits.Bytes = codes "bytes"
 limit_text limits.Faults = codes "faults"
 
+-- what is printed of a fault
 abbrev pub fault_text : LineFault → List ℕ
 fault_text faults.Syntax = codes "syntax"
 fault_text faults.Unknown = codes "unknown"

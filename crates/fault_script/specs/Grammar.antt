@@ -10,6 +10,7 @@ use Rattle.fault_script.specs.declared.lines.Line.TheVariants.{Hosts, Group, Cli
 abbrev pub IsNumber : List ℕ → ℕ → Type 0
 IsNumber word kept = (value : ℕ) × (number word ≡ Some value) × (kept ≡ capped value)
 
+-- the words of each line
 abbrev pub Spells : List (List ℕ) → Line → Type 0
 Spells words (Hosts count) =
     (digits : List ℕ) × (words ≡ codes "hosts" ∷ digits ∷ []) × IsNumber digits count × (1 ≤ count)

@@ -4,6 +4,7 @@ use Rattle.std.specs.List.{list_all}
 use Rattle.std.specs.Char.{is_ascii_digit}
 use Rattle.std.specs.Str.Parse.{digits_value}
 
+-- 1 to 20 digits
 abbrev pub is_number : List ℕ → Bool
 is_number word = nat_le 1 (length word) && nat_le (length word) 20 && list_all is_ascii_digit word
 
@@ -19,6 +20,7 @@ capped value = min value (2 ^ 64 - 1)
 abbrev pub from_one : ℕ → Option ℕ
 from_one value = if value == 0 then None else Some (capped value)
 
+-- the number from 1 that a word is, if it is one
 abbrev pub positive_number : List ℕ → Option ℕ
 positive_number word = option_and_then from_one (number word)
 
@@ -33,22 +35,26 @@ abbrev pub is_within : ℕ → ℤ → Bool
 is_within range (pos n) = nat_lt n range
 is_within range (negsuc n) = nat_lt n range
 
+-- a value in that range
 abbrev pub within : ℕ → ℤ → Option ℤ
 within range value = if is_within range value then Some value else None
 
--- signed numbers of 64 and of 32 bits
+-- the signed number of 64 bits that a word is, if it is one
 abbrev pub signed_64 : List ℕ → Option ℤ
 signed_64 word = option_and_then (within (2 ^ 63)) (decimal word)
 
+-- the same of 32 bits
 abbrev pub signed_32 : List ℕ → Option ℤ
 signed_32 word = option_and_then (within (2 ^ 31)) (decimal word)
 
--- numbers of 64 and of 32 bits
+-- a number below a limit
 abbrev pub below : ℕ → ℕ → Option ℕ
 below limit value = if nat_lt value limit then Some value else None
 
+-- the number of 64 bits that a word is, if it is one
 abbrev pub unsigned_64 : List ℕ → Option ℕ
 unsigned_64 word = option_and_then (below (2 ^ 64)) (number word)
 
+-- the same of 32 bits
 abbrev pub unsigned_32 : List ℕ → Option ℕ
 unsigned_32 word = option_and_then (below (2 ^ 32)) (number word)

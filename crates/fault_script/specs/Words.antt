@@ -9,6 +9,7 @@ use Rattle.ft_base.specs.Text.{name_refusal}
 abbrev pub is_blank : ℕ → Bool
 is_blank byte = (byte == 32) || (byte == 9) || (byte == 13)
 
+-- two blanks side by side have no word between them
 abbrev pub is_filled : List ℕ → Bool
 is_filled word = not (length word == 0)
 

@@ -1,8 +1,8 @@
 ghost use Rattle.std.specs.Prelude.{◌≡◌, ℕ, ◌+◌, ◌^◌, ◌<◌, ◌++◌, List, [], length, Option, Some, option_map, IfOk, IfSome};
 ghost use Rattle.ft_base.specs.Canonical.{one_of, IsCanonical};
 ghost use Rattle.ft_base.specs.Text.{zero_place};
-ghost use Rattle.fault_script.specs.Faults.{Answers};
-ghost use Rattle.fault_script.specs.Arguments.{argument, argument_from, arguments, parameters, said_of, call_words_of, Finds, octets_of, text_of};
+ghost use Rattle.fault_script.specs.Faults.{IsAnswer};
+ghost use Rattle.fault_script.specs.Arguments.{argument, argument_from, arguments, parameters, call_words_from, call_words_of, IsFound, octets_of, text_of};
 
 use crate::lines::{LineFault, Words};
 use crate::numerals::{read_i64, read_u32};
@@ -15,9 +15,9 @@ use std::alloc::Global;
 /// The most bytes that a length field counts, a text's NUL among them.
 const LENGTH_LIMIT: usize = 0xFFFF_FFFF;
 
-/// What a `call` says behind its operation.
-#[derive(Drop)]
-pub struct Said {
+/// The words of a `call` behind its operation.
+#[derive(Debug, Drop)]
+pub struct CallWords {
     /// The parameters in canonical form.
     pub args: Bytes,
     pub retention: Option<Retention>,
@@ -33,7 +33,7 @@ fn first_zero(text: &[u8]) -> Option<usize>
 }
 
 fn push_text_word(out: &mut Vec<u8>, word: &[u8]) -> Result<(), LineFault>
-    ensures { Finds (λ _. out.new.items) result
+    ensures { IsFound (λ _. out.new.items) result
         (option_map (λ value. out.old.items ++ value) (argument Par.Text (length out.old.items) word.now)) }
 {
     if word.len() >= LENGTH_LIMIT || first_zero(word).is_some() {
@@ -46,7 +46,7 @@ fn push_text_word(out: &mut Vec<u8>, word: &[u8]) -> Result<(), LineFault>
 }
 
 fn push_i64_word(out: &mut Vec<u8>, word: &[u8]) -> Result<(), LineFault>
-    ensures { Finds (λ _. out.new.items) result
+    ensures { IsFound (λ _. out.new.items) result
         (option_map (λ value. out.old.items ++ value) (argument Par.I64 (length out.old.items) word.now)) }
 {
     let Some(value) = read_i64(word) else {
@@ -59,7 +59,7 @@ fn push_i64_word(out: &mut Vec<u8>, word: &[u8]) -> Result<(), LineFault>
 }
 
 fn push_u32_word(out: &mut Vec<u8>, word: &[u8]) -> Result<(), LineFault>
-    ensures { Finds (λ _. out.new.items) result
+    ensures { IsFound (λ _. out.new.items) result
         (option_map (λ value. out.old.items ++ value) (argument Par.U32 (length out.old.items) word.now)) }
 {
     let Some(value) = read_u32(word) else {
@@ -73,8 +73,8 @@ fn push_u32_word(out: &mut Vec<u8>, word: &[u8]) -> Result<(), LineFault>
 
 /// Octets: `-` for none, else hexadecimal.
 pub(crate) fn read_octets(alloc: Global, word: &[u8]) -> Result<Vec<u8>, LineFault>
-    ensures found { Finds (λ octets. octets.items) result (octets_of word.now) }
-    ensures counted { IfOk result (λ octets. length octets.items < 2 ^ 32) }
+    ensures found { IsFound (λ octets. octets.items) result (octets_of word.now) }
+    ensures countable { IfOk result (λ octets. length octets.items < 2 ^ 32) }
 {
     if word == b"-".as_slice() {
         return Ok(Vec::new(alloc));
@@ -92,7 +92,7 @@ pub(crate) fn read_octets(alloc: Global, word: &[u8]) -> Result<Vec<u8>, LineFau
 }
 
 fn push_octets_word(alloc: Global, out: &mut Vec<u8>, word: &[u8]) -> Result<(), LineFault>
-    ensures { Finds (λ _. out.new.items) result
+    ensures { IsFound (λ _. out.new.items) result
         (option_map (λ value. out.old.items ++ value) (argument Par.Octets (length out.old.items) word.now)) }
 {
     let octets = read_octets(alloc, word)?;
@@ -104,7 +104,7 @@ fn push_octets_word(alloc: Global, out: &mut Vec<u8>, word: &[u8]) -> Result<(),
 
 /// Appends a parameter of this type, as this word says.
 fn push_argument(alloc: Global, out: &mut Vec<u8>, par: Par, word: &[u8]) -> Result<(), LineFault>
-    ensures { Finds (λ _. out.new.items) result
+    ensures { IsFound (λ _. out.new.items) result
         (option_map (λ value. out.old.items ++ value) (argument par (length out.old.items) word.now)) }
 {
     match par {
@@ -123,7 +123,7 @@ fn take_argument<'a>(
     par: Par,
     words: &'a [Bytes],
 ) -> Result<&'a [Bytes], LineFault>
-    ensures { Finds (λ rest. record { bytes = out.new.items; rest = rest.now }) result
+    ensures { IsFound (λ rest. record { bytes = out.new.items; rest = rest.now }) result
         (argument_from par out.old.items words.now) }
 {
     if words.is_empty() {
@@ -142,7 +142,7 @@ fn take_parameter<'a>(
     par: Option<Par>,
     words: &'a [Bytes],
 ) -> Result<&'a [Bytes], LineFault>
-    ensures { Finds (λ rest. record { bytes = out.new.items; rest = rest.now }) result
+    ensures { IsFound (λ rest. record { bytes = out.new.items; rest = rest.now }) result
         (arguments (one_of par) (record { bytes = out.old.items; rest = words.now })) }
 {
     match par {
@@ -157,7 +157,7 @@ fn take_parameters<'a>(
     signature: Signature,
     words: &'a [Bytes],
 ) -> Result<&'a [Bytes], LineFault>
-    ensures { Finds (λ rest. record { bytes = out.new.items; rest = rest.now }) result
+    ensures { IsFound (λ rest. record { bytes = out.new.items; rest = rest.now }) result
         (arguments (parameters (Some signature)) (record { bytes = out.old.items; rest = words.now })) }
 {
     match take_parameter(alloc, out, signature.first, words) {
@@ -172,7 +172,7 @@ fn take_arguments<'a>(
     signature: Option<Signature>,
     words: &'a [Bytes],
 ) -> Result<&'a [Bytes], LineFault>
-    ensures { Finds (λ rest. record { bytes = out.new.items; rest = rest.now }) result
+    ensures { IsFound (λ rest. record { bytes = out.new.items; rest = rest.now }) result
         (arguments (parameters signature) (record { bytes = out.old.items; rest = words.now })) }
 {
     match signature {
@@ -181,12 +181,12 @@ fn take_arguments<'a>(
     }
 }
 
-fn say(args: Vec<u8>, words: &[Bytes]) -> Option<Said>
-    ensures said { result ≡ said_of (record { bytes = args.items; rest = words.now }) }
-    ensures args { IfSome result (λ said. said.args ≡ args.items) }
+fn with_options(args: Vec<u8>, words: &[Bytes]) -> Option<CallWords>
+    ensures read { result ≡ call_words_from (record { bytes = args.items; rest = words.now }) }
+    ensures args { IfSome result (λ call. call.args ≡ args.items) }
 {
     let options = read_options(words)?;
-    Some(Said {
+    Some(CallWords {
         args: Bytes::from_vec(args),
         retention: options.retention,
         expiration: options.expiration,
@@ -201,18 +201,18 @@ pub fn call_words(
     alloc: Global,
     signature: Option<Signature>,
     words: &Words,
-) -> Result<Said, LineFault>
-    ensures answer { Answers result (call_words_of signature words.now) }
-    // A servant can run what is said.
-    ensures canonical { IfOk result (λ said. IsCanonical (parameters signature) said.args) }
+) -> Result<CallWords, LineFault>
+    ensures answer { IsAnswer result (call_words_of signature words.now) }
+    // A servant can run an operation with these arguments.
+    ensures canonical { IfOk result (λ call. IsCanonical (parameters signature) call.args) }
 {
     let mut args = Vec::new(alloc);
     let rest = match take_arguments(alloc, &mut args, signature, words.as_slice()) {
         Ok(rest) => rest,
         Err(fault) => return Err(fault),
     };
-    match say(args, rest) {
-        Some(said) => Ok(said),
+    match with_options(args, rest) {
+        Some(call) => Ok(call),
         None => Err(LineFault::Syntax),
     }
 }

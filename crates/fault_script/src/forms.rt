@@ -2,7 +2,7 @@ ghost use Rattle.std.specs.Prelude.{◌≡◌, ℕ, List, true, option_map, opti
 ghost use Rattle.std.specs.List.{list_all};
 ghost use Rattle.fault_script.specs.Words.{texts, only, is_script_name, is_operation};
 ghost use Rattle.fault_script.specs.Numbers.{is_number, number, capped};
-ghost use Rattle.fault_script.specs.Faults.{Answers};
+ghost use Rattle.fault_script.specs.Faults.{IsAnswer};
 ghost use Rattle.fault_script.specs.Forms.{is_kind, is_style, is_stop, hosts_line, is_group_form, built_group, group_line, client_line, call_line, deliver_line, tick_line, show_line, inject_line};
 
 use crate::arguments::read_octets;
@@ -28,7 +28,7 @@ pub(crate) fn read_hosts(words: &[&[u8]]) -> Result<Line, LineFault>
 
 /// `client C`, from the words behind the first.
 pub(crate) fn read_client(alloc: Global, words: &[&[u8]]) -> Result<Line, LineFault>
-    ensures { Answers result (client_line (texts words.now)) }
+    ensures { IsAnswer result (client_line (texts words.now)) }
 {
     let Some(word) = only(words) else {
         return Err(LineFault::Syntax);
@@ -41,7 +41,7 @@ pub(crate) fn read_client(alloc: Global, words: &[&[u8]]) -> Result<Line, LineFa
 
 /// `show G`, from the words behind the first.
 pub(crate) fn read_show(alloc: Global, words: &[&[u8]]) -> Result<Line, LineFault>
-    ensures { Answers result (show_line (texts words.now)) }
+    ensures { IsAnswer result (show_line (texts words.now)) }
 {
     let Some(word) = only(words) else {
         return Err(LineFault::Syntax);
@@ -106,7 +106,7 @@ fn build_group(
     hosts: &[&[u8]],
 ) -> Result<Line, LineFault>
     requires { is_script_name name.now ≡ true }
-    ensures { Answers result (built_group name.now kind.now style.now (texts hosts.now)) }
+    ensures { IsAnswer result (built_group name.now kind.now style.now (texts hosts.now)) }
 {
     if kind != b"account".as_slice() || style != b"cold".as_slice() {
         return Err(LineFault::Later);
@@ -122,7 +122,7 @@ fn build_group(
 
 /// `group G KIND STYLE H..`, from the words behind the first.
 pub(crate) fn read_group(alloc: Global, words: &[&[u8]]) -> Result<Line, LineFault>
-    ensures { Answers result (group_line (texts words.now)) }
+    ensures { IsAnswer result (group_line (texts words.now)) }
 {
     let Some((name, rest)) = split_first(words) else {
         return Err(LineFault::Syntax);
@@ -150,7 +150,7 @@ fn build_call(
     requires client_named { is_script_name client.now ≡ true }
     requires group_named { is_script_name group.now ≡ true }
     requires operation { is_operation op.now ≡ true }
-    ensures { Answers result (Ok (Line.Call client.now group.now op.now (texts rest.now))) }
+    ensures { IsAnswer result (Ok (Line.Call client.now group.now op.now (texts rest.now))) }
 {
     let client = read_name(alloc, client)?;
     let group = read_name(alloc, group)?;
@@ -168,7 +168,7 @@ fn build_call(
 
 /// `call C G OP WORD..`, from the words behind the first.
 pub(crate) fn read_call(alloc: Global, words: &[&[u8]]) -> Result<Line, LineFault>
-    ensures { Answers result (call_line (texts words.now)) }
+    ensures { IsAnswer result (call_line (texts words.now)) }
 {
     let Some((client, rest)) = split_first(words) else {
         return Err(LineFault::Syntax);
@@ -217,7 +217,7 @@ pub(crate) fn read_deliver(words: &[&[u8]]) -> Result<Line, LineFault>
 
 /// `inject H HEX`, from the words behind the first.
 pub(crate) fn read_inject(alloc: Global, words: &[&[u8]]) -> Result<Line, LineFault>
-    ensures { Answers result (inject_line (texts words.now)) }
+    ensures { IsAnswer result (inject_line (texts words.now)) }
 {
     let Some((host, rest)) = split_first(words) else {
         return Err(LineFault::Syntax);

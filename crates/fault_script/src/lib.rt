@@ -12,7 +12,7 @@ mod splitting;
 mod values;
 mod verbs;
 
-pub use arguments::{Said, call_words};
+pub use arguments::{CallWords, call_words};
 pub use lines::{LimitName, Line, LineFault, Words};
 pub use reading::read_line;
 

@@ -5,7 +5,7 @@ use std::alloc::Global;
 use std::marker::Model;
 
 /// Words in order, each of any bytes.
-#[derive(Drop)]
+#[derive(Debug, Drop)]
 pub struct Words {
     words: Vec<Bytes>,
 }
@@ -18,7 +18,7 @@ impl Model for Words {
 
 /// A line of a script. A host or a message has its number; one that 64 bits can't keep is the greatest
 /// that they can, which no host and no message has.
-#[derive(Drop)]
+#[derive(Debug, Drop)]
 pub enum Line {
     /// `hosts N`: the hosts 0 to N-1 are up.
     Hosts(u64),

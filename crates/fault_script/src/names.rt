@@ -1,7 +1,7 @@
 ghost use Rattle.std.specs.Prelude.{◌≡◌, ℕ, ◌<◌, true, if◌then◌else◌, List, length, Ok, Err};
 ghost use Rattle.ft_base.specs.Text.{zero_place};
 ghost use Rattle.fault_script.specs.Words.{is_script_name, is_operation};
-ghost use Rattle.fault_script.specs.Faults.{Answers};
+ghost use Rattle.fault_script.specs.Faults.{IsAnswer};
 
 use crate::lines::LineFault;
 use crate::splitting::is_script_name;
@@ -23,7 +23,7 @@ pub(crate) fn is_operation(word: &[u8]) -> bool
 
 /// An operation: any word that can be a name.
 pub(crate) fn read_operation(alloc: Global, word: &[u8]) -> Result<Name, LineFault>
-    ensures { Answers result (if is_operation word.now then Ok word.now else Err LineFault.Syntax) }
+    ensures { IsAnswer result (if is_operation word.now then Ok word.now else Err LineFault.Syntax) }
 {
     if word.len() > NAME_LIMIT {
         return Err(LineFault::Syntax);
@@ -37,7 +37,7 @@ pub(crate) fn read_operation(alloc: Global, word: &[u8]) -> Result<Name, LineFau
 
 /// The name of a group or of a client.
 pub(crate) fn read_name(alloc: Global, word: &[u8]) -> Result<Name, LineFault>
-    ensures { Answers result (if is_script_name word.now then Ok word.now else Err LineFault.Syntax) }
+    ensures { IsAnswer result (if is_script_name word.now then Ok word.now else Err LineFault.Syntax) }
 {
     if is_script_name(word) {
         read_operation(alloc, word)

@@ -1,6 +1,6 @@
 ghost use Rattle.std.specs.Prelude.{◌≡◌, ℕ, ◌<◌, ◌≤◌, List, length, Some, Ok, Err, IfOk, IfSome};
 ghost use Rattle.fault_script.specs.Words.{words, texts};
-ghost use Rattle.fault_script.specs.Faults.{Answers};
+ghost use Rattle.fault_script.specs.Faults.{IsAnswer};
 ghost use Rattle.fault_script.specs.Forms.{line_of, parse_words, parse};
 ghost use Rattle.fault_script.specs.Grammar.{Spells};
 ghost use Rattle.fault_script.specs.declared.lines.Line.{Line};
@@ -17,7 +17,7 @@ use std::alloc::Global;
 const LINE_LIMIT: usize = 4096;
 
 fn read_form(alloc: Global, first: &[u8], rest: &[&[u8]]) -> Result<Line, LineFault>
-    ensures { Answers result (line_of first.now (texts rest.now)) }
+    ensures { IsAnswer result (line_of first.now (texts rest.now)) }
 {
     if is_unbuilt(first) {
         return Err(LineFault::Later);
@@ -36,7 +36,7 @@ fn read_form(alloc: Global, first: &[u8], rest: &[&[u8]]) -> Result<Line, LineFa
 }
 
 fn read_words(alloc: Global, words: &[&[u8]]) -> Result<Option<Line>, LineFault>
-    ensures { Answers result (parse_words (texts words.now)) }
+    ensures { IsAnswer result (parse_words (texts words.now)) }
 {
     let Some((first, rest)) = split_first(words) else {
         return Ok(None);
@@ -51,7 +51,7 @@ fn read_words(alloc: Global, words: &[&[u8]]) -> Result<Option<Line>, LineFault>
 }
 
 fn read_text(alloc: Global, text: &[u8]) -> Result<Option<Line>, LineFault>
-    ensures answer { Answers result (parse text.now) }
+    ensures answer { IsAnswer result (parse text.now) }
     ensures long { 4096 < length text.now → result ≡ Err (LineFault.Limit LimitName.Line) }
 {
     if text.len() > LINE_LIMIT {
@@ -67,12 +67,12 @@ fn read_text(alloc: Global, text: &[u8]) -> Result<Option<Line>, LineFault>
 /// refused as `limit line`, `later` or `syntax`, for the first of these that applies.
 pub fn read_line(alloc: Global, text: &[u8]) -> Result<Option<Line>, LineFault>
     // The table of lines and refusals, exactly.
-    ensures answer { Answers result (parse text.now) }
+    ensures answer { IsAnswer result (parse text.now) }
     // What is read is of its form.
     ensures form { IfOk result (λ read. IfSome read (Spells (words text.now))) }
     // What is of a form is read.
     ensures read { (line : Line) → length text.now ≤ 4096 → Spells (words text.now) line
-        → Answers result (Ok (Some line)) }
+        → IsAnswer result (Ok (Some line)) }
     ensures long { 4096 < length text.now → result ≡ Err (LineFault.Limit LimitName.Line) }
 {
     read_text(alloc, text)

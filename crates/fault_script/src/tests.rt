@@ -1,4 +1,4 @@
-use crate::{Line, LineFault, Words, call_words, read_line};
+use crate::{LimitName, Line, LineFault, Words, call_words, read_line};
 use ft_base::{Bytes, Par, Signature};
 use std::alloc::Global;
 use std::test::Fail;
@@ -125,44 +125,67 @@ fn lines(rt: HostRuntime) -> Result<(), Fail> {
     Ok(())
 }
 
-fn line_of(alloc: Global, start: &str, byte: u8, length: usize) -> Result<Vec<u8>, Fail> {
+// A line with a part that stands in it so many times.
+fn line_of(
+    alloc: Global,
+    start: &str,
+    part: &str,
+    count: usize,
+    end: &str,
+) -> Result<Vec<u8>, Fail> {
     let mut line = Vec::new(alloc);
     line.extend_from_slice(start.as_bytes())?;
-    for _ in 0..length {
-        line.push(byte)?;
+    for _ in 0..count {
+        line.extend_from_slice(part.as_bytes())?;
     }
+    line.extend_from_slice(end.as_bytes())?;
     Ok(line)
 }
 
-const LONG_LINES: [(&str, u8, usize, Result<&str, LineFault>); 8] = [
-    ("show g", b' ', 4090, Ok("show")),
+// Lines, words and names at their limits, and one past them.
+const LONG_LINES: [(&str, &str, usize, &str, Result<&str, LineFault>); 26] = [
+    ("show g", " ", 4090, "", Ok("show")),
     (
         "show g",
-        b' ',
+        " ",
         4091,
-        Err(LineFault::Limit(crate::LimitName::Line)),
+        "",
+        Err(LineFault::Limit(LimitName::Line)),
     ),
-    ("#", b'\r', 4095, Ok("nothing")),
-    (
-        "#",
-        b'\r',
-        4096,
-        Err(LineFault::Limit(crate::LimitName::Line)),
-    ),
-    ("show g", b'2', 63, Ok("show")),
-    ("show g", b'2', 64, Err(LineFault::Syntax)),
-    ("call c g ", b'=', 255, Ok("call")),
-    ("call c g ", b'=', 256, Err(LineFault::Syntax)),
+    ("#", "\r", 4095, "", Ok("nothing")),
+    ("#", "\r", 4096, "", Err(LineFault::Limit(LimitName::Line))),
+    ("", " ", 4096, "", Ok("nothing")),
+    ("", "frob ", 819, "", Err(LineFault::Syntax)),
+    ("crash", " x", 2045, "", Err(LineFault::Later)),
+    ("show ", "g", 64, "", Ok("show")),
+    ("show ", "g", 65, "", Err(LineFault::Syntax)),
+    ("client ", "c", 64, "", Ok("client")),
+    ("client ", "c", 65, "", Err(LineFault::Syntax)),
+    ("group ", "g", 64, " account cold 0", Ok("group")),
+    ("group ", "g", 65, " account cold 0", Err(LineFault::Syntax)),
+    ("group ", "g", 64, " store warm 0", Err(LineFault::Later)),
+    ("call ", "c", 64, " g op", Ok("call")),
+    ("call ", "c", 65, " g op", Err(LineFault::Syntax)),
+    ("call c ", "g", 64, " op", Ok("call")),
+    ("call c ", "g", 65, " op", Err(LineFault::Syntax)),
+    ("call c g ", "=", 255, "", Ok("call")),
+    ("call c g ", "=", 256, "", Err(LineFault::Syntax)),
+    ("call c g op", " w", 2042, "", Ok("call")),
+    ("call c g op ", "w", 4084, "", Ok("call")),
+    ("inject 0 ", "00", 2043, "", Ok("inject")),
+    ("inject 0 ", "00", 2043, "0", Err(LineFault::Syntax)),
+    ("deliver ", "0", 19, "1", Ok("deliver")),
+    ("deliver ", "0", 20, "1", Err(LineFault::Syntax)),
 ];
 
 #[test]
 fn lengths(rt: HostRuntime) -> Result<(), Fail> {
-    for (start, byte, length, wanted) in LONG_LINES.iter() {
-        let line = line_of(rt.alloc(), *start, *byte, *length)?;
+    for (start, part, count, end, wanted) in LONG_LINES.iter() {
+        let line = line_of(rt.alloc(), *start, *part, *count, *end)?;
         assert_eq!(rt;
             shown(rt.alloc(), line.as_slice()),
             *wanted,
-            "{start} {length}"
+            "{start} {count} {end}"
         );
     }
     Ok(())
@@ -341,8 +364,8 @@ const CALLS: [Row; 36] = [
     ("call c g op true", Some(Par::Bool), None, None),
 ];
 
-fn words_of(alloc: Global, text: &str) -> Words {
-    match read_line(alloc, text.as_bytes()) {
+fn words_of(alloc: Global, text: &[u8]) -> Words {
+    match read_line(alloc, text) {
         Ok(
             Some(
                 Line::Call {
@@ -360,7 +383,7 @@ fn words_of(alloc: Global, text: &str) -> Words {
 #[test]
 fn calls(rt: HostRuntime) -> Result<(), Fail> {
     for (text, first, second, wanted) in CALLS.iter() {
-        let words = words_of(rt.alloc(), *text);
+        let words = words_of(rt.alloc(), text.as_bytes());
         let signature = Signature {
             first: *first,
             second: *second,
@@ -371,19 +394,44 @@ fn calls(rt: HostRuntime) -> Result<(), Fail> {
                 assert_eq!(rt; fault, LineFault::Syntax, "{text}");
                 assert!(rt; wanted.is_none(), "{text}");
             }
-            Ok(said) => {
+            Ok(call) => {
                 let (args, retention, expiration, versioned) = (*wanted).ok_or("refused")?;
-                assert_eq!(rt; said.args.bytes(), args, "{text}");
-                assert_eq!(rt; said.retention.map(|id| id.0), retention, "{text}");
-                assert_eq!(rt; said.expiration.map(|tick| tick.0), expiration, "{text}");
-                assert_eq!(rt; said.versioned, versioned, "{text}");
+                assert_eq!(rt; call.args.bytes(), args, "{text}");
+                assert_eq!(rt; call.retention.map(|id| id.0), retention, "{text}");
+                assert_eq!(rt; call.expiration.map(|tick| tick.0), expiration, "{text}");
+                assert_eq!(rt; call.versioned, versioned, "{text}");
             }
         }
     }
     let none = Words::from_vec(Vec::new(rt.alloc()));
     match call_words(rt.alloc(), None, &none) {
-        Ok(said) => assert!(rt; said.args.bytes().is_empty()),
+        Ok(call) => assert!(rt; call.args.bytes().is_empty()),
         Err(_) => assert!(rt; false),
+    }
+    Ok(())
+}
+
+// The longest argument of a line, by its type: what stands for a byte of it, how many there are, and how
+// many bytes its spelling has.
+const LONG_ARGUMENTS: [(Par, &str, usize, usize); 2] = [
+    (Par::Text, "w", 4_084, 4_089),
+    (Par::Octets, "00", 2_042, 2_046),
+];
+
+#[test]
+fn long_arguments(rt: HostRuntime) -> Result<(), Fail> {
+    for (par, part, count, length) in LONG_ARGUMENTS.iter() {
+        let line = line_of(rt.alloc(), "call c g op ", *part, *count, "")?;
+        let words = words_of(rt.alloc(), line.as_slice());
+        let signature = Signature {
+            first: Some(*par),
+            second: None,
+            gives: None,
+        };
+        match call_words(rt.alloc(), Some(signature), &words) {
+            Ok(call) => assert_eq!(rt; call.args.bytes().len(), *length),
+            Err(_) => assert!(rt; false),
+        }
     }
     Ok(())
 }

@@ -2,8 +2,8 @@
 use Rattle.std.proofs.Common.{◌≡◌, ℕ, zero, suc, ◌<◌, Bool, true, false, cond, List, [], ◌∷◌, ◌++◌, length, Some, refl, ap, subst, arith}
 use Rattle.std.specs.Prelude.{slice_get}
 use Rattle.ft_base.specs.Machine.{Machine, Fits, IsGiven}
+use Rattle.ft_base.specs.Laws.{Stays, Gives}
 use Rattle.ft_base.specs.Journal.{Entry, after, AllFit, replies, reply_at, last_place, later_or}
-use Rattle.ft_base.specs.declared.requests.Request.{Request}
 use Rattle.ft_base.specs.declared.requests.Outcome.{Outcome}
 
 -- one more request
@@ -48,13 +48,6 @@ unfolding replies reply_at
 reply_at-replies m s [] i o h = absurd cc
 reply_at-replies m s (e ∷ es) zero o h = cc
 reply_at-replies m s (e ∷ es) (suc i) o h = reply_at-replies m (m.step s e.request).0 es i o h
-
--- a servant's laws: its states stay states, and its outcomes are in the form of what is given
-abbrev pub Stays : Machine → Type 0
-Stays m = (s : List ℕ) (q : Request) → m.is_state s ≡ true → Fits m q → m.is_state (m.step s q).0 ≡ true
-
-abbrev pub Gives : Machine → Type 0
-Gives m = (s : List ℕ) (q : Request) → m.is_state s ≡ true → Fits m q → IsGiven m q (m.step s q).1
 
 pub after-is_state : (m : Machine) → Stays m → (s : List ℕ) (es : List Entry) → m.is_state s ≡ true → AllFit m es →
     m.is_state (after m s es) ≡ true

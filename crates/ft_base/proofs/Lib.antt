@@ -1,3 +1,5 @@
 pub mod Journal
 pub mod Once
 pub mod Reached
+pub mod ViewLaws
+pub mod ValueLaws

@@ -6,7 +6,7 @@ use Rattle.std.specs.Str.{bytes_eq}
 use Rattle.std.proofs.lemmas.Bool.{ltb-false}
 use Rattle.std.proofs.lemmas.Bool.Decides.{Decides-int_eq}
 use Rattle.std.proofs.lemmas.Slice.Eq.{bytes_eq-Decides}
-use Rattle.ft_base.specs.Journal.{Entry, AtMostOnce, IsOneCall, is_held, is_held_by, last_place, later_or, CanJoin}
+use Rattle.ft_base.specs.Journal.{Entry, AtMostOnce, IsJournal, IsOneCall, is_held, is_held_by, last_place, later_or, CanJoin}
 use Rattle.ft_base.specs.declared.requests.Key.{Key}
 
 -- an element of a list with one more at its end is one of before, or the last
@@ -59,4 +59,23 @@ AtMostOnce-push journal entry once joins = record {
       (λ p. absurd (omega (arith, p.0, q.0)))
       (got_of_push journal entry early i gi))
       (got_of_push journal entry late j gj);
+}
+
+-- an entry at a moment that is not before the journal's joins it
+pub IsJournal-push : (time : ℕ) (journal : List Entry) (entry : Entry) → IsJournal time journal → time ≤ entry.at → CanJoin journal entry
+    → IsJournal entry.at (journal ++ entry ∷ [])
+IsJournal-push time journal entry so later joins = record {
+  before = λ i e g.
+      ⊎_elim (λ p. omega (arith, so.before i e p.1, later)) (λ p. subst (λ (x : Entry). x.at ≤ entry.at) p.1 (omega arith)) (got_of_push journal entry e i g);
+  ticks = λ i j early late le gi gj.
+      ⊎_elim
+      (λ q. ⊎_elim (λ p. so.ticks i j early late le p.1 q.1)
+      (λ p. absurd (omega (arith, p.0, q.0, le)))
+      (got_of_push journal entry early i gi))
+      (λ q. ⊎_elim
+      (λ p. subst (λ (x : Entry). early.at ≤ x.at) q.1 (omega (arith, so.before i early p.1, later)))
+      (λ p. subst (λ (x : Entry). early.at ≤ x.at) q.1 (subst (λ (x : Entry). x.at ≤ entry.at) p.1 (omega arith)))
+      (got_of_push journal entry early i gi))
+      (got_of_push journal entry late j gj);
+  once = AtMostOnce-push journal entry so.once joins;
 }

@@ -58,6 +58,11 @@ last_place test (x ∷ xs) = later_or (last_place test xs) (test x)
 abbrev pub held : List Entry → Key → ℕ → Option ℕ
 held journal key now = last_place (is_held now key) journal
 
+-- the ticks of acceptance never fall along the journal
+abbrev pub NeverFalls : List Entry → Type 0
+NeverFalls journal = (i j : ℕ) (early late : Entry) → i ≤ j → slice_get journal i ≡ Some early
+    → slice_get journal j ≡ Some late → early.at ≤ late.at
+
 -- two keys name one logical invocation
 pub record IsOneCall (one other : Key) : Type 0 where
   pub client : one.client ≡ other.client
@@ -72,6 +77,13 @@ pub record AtMostOnce (journal : List Entry) : Type 0 where
       → slice_get journal i ≡ Some early → slice_get journal j ≡ Some late
       → early.request.key ≡ Some first → late.request.key ≡ Some second → IsOneCall first second
       → first.expiration.0 ≤ late.at
+
+-- a journal up to this moment: no acceptance is later, their ticks never fall, and each request is in it at
+-- most once before its expiration
+pub record IsJournal (time : ℕ) (journal : List Entry) : Type 0 where
+  pub before : (i : ℕ) (entry : Entry) → slice_get journal i ≡ Some entry → entry.at ≤ time
+  pub ticks : NeverFalls journal
+  pub once : AtMostOnce journal
 
 -- what the admission asks of an entry with a key: its expiration is still to come, and no entry holds its
 -- retention id

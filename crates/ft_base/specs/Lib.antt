@@ -1,5 +1,10 @@
 pub mod Text
+pub mod Members
+pub mod Views
 pub mod Canonical
 pub mod Machine
 pub mod Journal
 pub mod Servants
+pub mod Laws
+pub mod Coding
+pub mod CodingLaws

@@ -1,6 +1,8 @@
 -- What a servant is: a function of its state and a request, over the state's bytes.
 use Rattle.std.specs.Prelude.{ℕ, ◌≤◌, Bool, List, ◌++◌, length, Option, Some, None}
+use Rattle.ft_base.specs.Text.{IsName}
 use Rattle.ft_base.specs.Canonical.{IsCanonical, one_of}
+use Rattle.ft_base.specs.declared.limits.TheConstants.{RESULT_LIMIT}
 use Rattle.ft_base.specs.declared.requests.Request.{Request}
 use Rattle.ft_base.specs.declared.requests.Outcome.{Outcome}
 use Rattle.ft_base.specs.declared.requests.Outcome.TheVariants.{Value, User}
@@ -28,11 +30,12 @@ FitsAs (Some signature) args = IsCanonical (one_of signature.first ++ one_of sig
 abbrev pub Fits : Machine → Request → Type 0
 Fits machine request = FitsAs (machine.signature request.op) request.args
 
--- an outcome's value is in the canonical form of what the operation gives, and at most 65,536 bytes long
+-- an outcome's value is in the canonical form of what the operation gives, and not too long; a user
+-- exception has a name
 abbrev pub IsGivenAs : Option Signature → Outcome → Type 0
 IsGivenAs None outcome = ⊥
-IsGivenAs (Some signature) (Value value) = IsCanonical (one_of signature.gives) value × (length value ≤ 65536)
-IsGivenAs (Some signature) (User name) = Unit {0}
+IsGivenAs (Some signature) (Value value) = IsCanonical (one_of signature.gives) value × (length value ≤ RESULT_LIMIT)
+IsGivenAs (Some signature) (User name) = IsName name
 
 abbrev pub IsGiven : Machine → Request → Outcome → Type 0
 IsGiven machine request outcome = IsGivenAs (machine.signature request.op) outcome

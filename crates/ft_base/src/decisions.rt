@@ -36,3 +36,29 @@ pub enum Decision {
     /// The service context with this id stands twice or can't be read.
     Context(u32),
 }
+
+/// Where a host stops in the middle of a request that it accepted.
+#[derive(Clone, Copy, Debug, PartialEq, Eq)]
+pub enum Stop {
+    /// It doesn't.
+    Never,
+    /// The entry is in the log, and the servant hasn't run it.
+    AfterAppend,
+    /// The servant ran it, and the reply isn't sent.
+    AfterExecute,
+}
+
+/// Why a host ignores what another one sent.
+#[derive(Clone, Copy, Debug, PartialEq, Eq)]
+pub enum Ignored {
+    /// It has no state to which an update or an order could be applied.
+    NotLoaded,
+    /// A state after `sent` entries, where the host has run as many or more, `at`.
+    Position { sent: u32, at: u32 },
+    /// An update that leads on from another position than the host's, `at`.
+    From { from: u32, at: u32 },
+    /// An order of an entry that the host has run: it is at position `at`.
+    Order { index: u32, at: u32 },
+    /// A view that is no newer than the one that the host knows.
+    Known { sent: Version, known: Version },
+}

@@ -5,23 +5,29 @@
 
 mod counter;
 mod decisions;
+mod laws;
+mod limits;
 mod memory;
 mod moves;
 mod numbers;
 mod requests;
 mod servants;
 mod text;
+mod values;
 mod views;
 
 pub use counter::Steps;
-pub use decisions::Decision;
+pub use decisions::{Decision, Ignored, Stop};
+pub use laws::{replies_are_given, requests_join, requests_lead_on};
+pub use limits::{ARGUMENTS_LIMIT, HOST_LIMIT, JOURNAL_LIMIT, RESULT_LIMIT, VIEW_LIMIT};
 pub use memory::NoMemory;
 pub use moves::{move_state, move_update};
 pub use numbers::{GroupId, HostNo, Retention, Tick, Version};
 pub use requests::{Key, Outcome, Par, Request, Signature};
 pub use servants::{Servant, StateFault, UpdateFault};
 pub use text::{Bytes, NAME_LIMIT, Name, NameFault};
-pub use views::{MEMBER_LIMIT, Members, View};
+pub use values::{Value, canonical_forms_are_of_values};
+pub use views::{MEMBER_LIMIT, Members, Style, View};
 
 #[cfg(test)]
 mod tests;

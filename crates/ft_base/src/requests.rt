@@ -7,7 +7,7 @@ use std::alloc::Global;
 
 /// What makes a request one logical invocation: who asks, which of that client's requests it is,
 /// and until when (chapter 23, `FTRequestServiceContext`).
-#[derive(Drop)]
+#[derive(Debug, Drop)]
 pub struct Key {
     pub client: Name,
     pub retention: Retention,
@@ -16,7 +16,7 @@ pub struct Key {
 
 /// A request as a servant sees it. `args` is the canonical form of its parameters: their spelling
 /// in big endian order with padding of zeros, from place 0.
-#[derive(Drop)]
+#[derive(Debug, Drop)]
 pub struct Request {
     pub key: Option<Key>,
     pub op: Name,
@@ -24,7 +24,7 @@ pub struct Request {
 }
 
 /// What a servant makes of a request: a value in canonical form, or a user exception by its name.
-#[derive(Drop)]
+#[derive(Debug, Drop)]
 pub enum Outcome {
     Value(Bytes),
     User(Name),

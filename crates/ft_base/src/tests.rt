@@ -93,8 +93,11 @@ fn copies_outcomes(rt: HostRuntime) -> Result<(), NoMemory> {
 #[test]
 fn copies_a_view(rt: HostRuntime) {
     let mut members = Members::new();
-    members.join(HostNo(7));
-    members.join(HostNo(1));
+    for host in [HostNo(7), HostNo(1), HostNo(7)] {
+        if members.len() < 16 && !members.has(host) {
+            members.join(host);
+        }
+    }
     let view = View {
         version: Version(4),
         members,

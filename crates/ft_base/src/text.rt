@@ -8,7 +8,7 @@ use std::marker::Model;
 use thiserror::Error;
 
 /// A text of 1 to 255 bytes, none of them 0: a client's id, an operation, a group's name.
-#[derive(Drop)]
+#[derive(Debug, Drop)]
 pub struct Name {
     text: Vec<u8>,
 }
@@ -22,7 +22,7 @@ impl Model for Name {
 }
 
 /// Bytes of any content.
-#[derive(Drop)]
+#[derive(Debug, Drop)]
 pub struct Bytes {
     bytes: Vec<u8>,
 }

@@ -1,4 +1,5 @@
-ghost use Rattle.std.specs.Prelude.{◌≡◌, ℕ, ◌<◌, ◌≤◌, [], ◌∷◌, ◌++◌, List, length};
+ghost use Rattle.std.specs.Prelude.{◌≡◌, ℕ, ◌<◌, ◌≤◌, false, [], ◌∷◌, ◌++◌, List, length};
+ghost use Rattle.ft_base.specs.Members.{is_member, AreDifferent};
 
 use crate::numbers::{HostNo, Version};
 use arrayvec::ArrayVec;
@@ -7,8 +8,19 @@ use std::marker::Model;
 /// The most members that a group can have.
 pub const MEMBER_LIMIT: usize = 16;
 
-/// The members of a group: at most 16 host numbers, in order of joining.
-#[derive(Drop)]
+/// How a group's members share its work (chapter 23, `ReplicationStyle`).
+#[derive(Clone, Copy, Debug, PartialEq, Eq)]
+pub enum Style {
+    /// COLD_PASSIVE: the primary runs requests; another member begins with the log when it takes over.
+    Cold,
+    /// WARM_PASSIVE: the primary runs requests, and sends the other members its state and updates.
+    Warm,
+    /// ACTIVE: every member runs every request, in the order of the log.
+    Active,
+}
+
+/// The members of a group: at most 16 different host numbers, in order of joining.
+#[derive(Debug, Drop)]
 pub struct Members {
     hosts: ArrayVec<u8, MEMBER_LIMIT>,
 }
@@ -17,10 +29,12 @@ impl Model for Members {
     ghost Value = { List ℕ };
 
     ghost view = { λ m. m.hosts.items };
+
+    ghost invariant = { λ m. AreDifferent m.hosts.items };
 }
 
 /// A view of a group: its members at one version, and the primary where there is one.
-#[derive(Drop)]
+#[derive(Debug, Drop)]
 pub struct View {
     pub version: Version,
     pub members: Members,
@@ -45,9 +59,18 @@ impl Members {
         self.hosts.len()
     }
 
+    /// Whether the host is a member.
+    pub fn has(&self, host: HostNo) -> bool
+        ensures { result ≡ is_member host.0 self.now }
+    {
+        self.hosts.as_slice().iter().any(|other| *other == host.0)
+    }
+
     /// Adds a member, as the last in order of joining.
+    #[tactic(auto, using(crate::proofs::ViewLaws::joined_differ))]
     pub fn join(&mut self, host: HostNo)
-        requires { length self.old < MEMBER_LIMIT }
+        requires room { length self.old < MEMBER_LIMIT }
+        requires new { is_member host.0 self.old ≡ false }
         ensures { self.new ≡ self.old ++ host.0 ∷ [] }
     {
         self.hosts.push(host.0);

@@ -5,14 +5,19 @@ use Rattle.cdr_codec.specs.declared.faults.CdrWhy.TheVariants.{Short}
 use Rattle.cdr_codec.specs.Reading.{Fault}
 use Rattle.cdr_codec.specs.Formats.{Format}
 use Rattle.cdr_codec.specs.Laws.{IsCodec}
+use Rattle.cdr_codec.specs.Calls.{Tells, Refuses}
+use Rattle.cdr_codec.proofs.CodecLaws.{told_found, told_refused}
 use Rattle.cdr_codec.proofs.Steps.{bind_ok, bind_goes, ok_is, ok_err, err_ok}
+use Rattle.ft_contexts.specs.declared.lists.TheConstants.{FT_GROUP_VERSION, FT_REQUEST}
 use Rattle.ft_contexts.specs.declared.lists.Context.{Context}
 use Rattle.ft_contexts.specs.declared.lists.FtContexts.{FtContexts}
 use Rattle.ft_contexts.specs.declared.faults.ContextFault.{ContextFault}
-use Rattle.ft_contexts.specs.declared.faults.ContextFault.TheVariants.{Twice, Bad, NoMemory}
-use Rattle.ft_contexts.specs.Contents.{group_version, request, held}
-use Rattle.ft_contexts.specs.Finding.{stands_twice, content_of, or_bad, found_in, found_by, contexts_of, IsFoundIn, AreFound, Answers, Refuses}
-use Rattle.ft_contexts.proofs.ContentLaws.{group_version_codec, request_codec, held_found, held_again}
+use Rattle.ft_contexts.specs.declared.faults.ContextFault.TheVariants.{Twice, Bad}
+use Rattle.cdr_codec.specs.Encapsulations.{held}
+use Rattle.cdr_codec.proofs.EncapsulationLaws.{held_found, held_again}
+use Rattle.ft_contexts.specs.Contents.{group_version, request}
+use Rattle.ft_contexts.specs.Finding.{stands_twice, content_of, or_bad, found_in, found_by, contexts_of, IsFoundIn, AreFound, wrong_contexts}
+use Rattle.ft_contexts.proofs.ContentLaws.{group_version_codec, request_codec}
 
 record IsHeld {X : Type 0} (value : Result X (Fault CdrWhy)) (found : Option X) : Type 0 where
   pub x : X
@@ -42,43 +47,44 @@ found_in_is f law id (Some piece) None h = absurd h
 found_in_is f law id (Some piece) (Some x) h = ap (or_bad id) (held_again f law piece x h)
 
 neither_twice : (b c : Bool) (rest : Result FtContexts ContextFault) (found : FtContexts)
-    → cond b (Err (Twice 12)) (cond c (Err (Twice 13)) rest) ≡ Ok found → (b ≡ false) × (c ≡ false) × (rest ≡ Ok found)
-neither_twice true c rest found e = absurd (err_ok found (Twice 12) e)
-neither_twice false true rest found e = absurd (err_ok found (Twice 13) e)
+    → cond b (Err (Twice FT_GROUP_VERSION)) (cond c (Err (Twice FT_REQUEST)) rest) ≡ Ok found → (b ≡ false) × (c ≡ false) × (rest ≡ Ok found)
+neither_twice true c rest found e = absurd (err_ok found (Twice FT_GROUP_VERSION) e)
+neither_twice false true rest found e = absurd (err_ok found (Twice FT_REQUEST) e)
 neither_twice false false rest found e = (refl, refl, e)
 
 pub are_found : (contexts : List Context) (found : FtContexts) → contexts_of contexts ≡ Ok found → AreFound contexts found
 are_found contexts found e =
-    let once = neither_twice (stands_twice 12 contexts) (stands_twice 13 contexts) _ found e in
-    let v = bind_ok (found_by group_version 12 contexts) _ found once.2 in
-    let k = bind_ok (found_by request 13 contexts) _ found v.2 in
+    let once = neither_twice (stands_twice FT_GROUP_VERSION contexts) (stands_twice FT_REQUEST contexts) _ found e in
+    let v = bind_ok (found_by group_version FT_GROUP_VERSION contexts) _ found once.2 in
+    let k = bind_ok (found_by request FT_REQUEST contexts) _ found v.2 in
     let is = ok_is (record { version = v.0; key = k.0 }) found k.2 in
     subst (AreFound contexts) is (record {
       one_version = once.0;
       one_key = once.1;
-      version = is_found_in group_version group_version_codec 12 (content_of 12 contexts) v.0 v.1;
-      key = is_found_in request request_codec 13 (content_of 13 contexts) k.0 k.1;
+      version = is_found_in group_version group_version_codec FT_GROUP_VERSION (content_of FT_GROUP_VERSION contexts) v.0 v.1;
+      key = is_found_in request request_codec FT_REQUEST (content_of FT_REQUEST contexts) k.0 k.1;
     })
 
 passes : (b c : Bool) (rest : Result FtContexts ContextFault) (found : FtContexts)
-    → b ≡ false → c ≡ false → rest ≡ Ok found → cond b (Err (Twice 12)) (cond c (Err (Twice 13)) rest) ≡ Ok found
+    → b ≡ false → c ≡ false → rest ≡ Ok found → cond b (Err (Twice FT_GROUP_VERSION)) (cond c (Err (Twice FT_REQUEST)) rest) ≡ Ok found
 passes b c rest found e d h = rw (e, d) h
 
 pub found_are : (contexts : List Context) (found : FtContexts) → AreFound contexts found → contexts_of contexts ≡ Ok found
 found_are contexts found a =
-    passes (stands_twice 12 contexts) (stands_twice 13 contexts) _ found a.one_version a.one_key
-    (bind_goes (found_by group_version 12 contexts) _ found.version _ (found_in_is group_version group_version_codec 12 (content_of 12 contexts) found.version a.version)
-    (bind_goes (found_by request 13 contexts) _ found.key _ (found_in_is request request_codec 13 (content_of 13 contexts) found.key a.key) refl))
+    passes (stands_twice FT_GROUP_VERSION contexts) (stands_twice FT_REQUEST contexts) _ found a.one_version a.one_key
+    (bind_goes (found_by group_version FT_GROUP_VERSION contexts) _ found.version _ (found_in_is group_version group_version_codec FT_GROUP_VERSION (content_of FT_GROUP_VERSION contexts) found.version a.version)
+    (bind_goes (found_by request FT_REQUEST contexts) _ found.key _ (found_in_is request request_codec FT_REQUEST (content_of FT_REQUEST contexts) found.key a.key) refl))
 
 -- ---- a call's answers
 
-pub is_found : (contexts : List Context) (result : Result FtContexts ContextFault) → Answers result (contexts_of contexts) → IfOk result (λ found. AreFound contexts found)
-is_found contexts (Ok found) h = are_found contexts found h
-is_found contexts (Err e) h = tt
+abbrev pub TellsContexts : List Context → Result FtContexts ContextFault → Type 0
+TellsContexts contexts result = Tells (λ found. found) wrong_contexts result (contexts_of contexts)
 
-pub is_refused : (contexts : List Context) (result : Result FtContexts ContextFault) → Answers result (contexts_of contexts)
-    → Refuses result ((found : FtContexts) → AreFound contexts found → ⊥)
-is_refused contexts (Ok found) h = tt
-is_refused contexts (Err NoMemory) h = tt
-is_refused contexts (Err (Twice id)) h = λ found a. ok_err found (Twice id) (sym (found_are contexts found a) ∙ h)
-is_refused contexts (Err (Bad id place)) h = λ found a. ok_err found (Bad id place) (sym (found_are contexts found a) ∙ h)
+pub is_found : (contexts : List Context) (result : Result FtContexts ContextFault) → TellsContexts contexts result → IfOk result (AreFound contexts)
+is_found contexts result h = told_found (λ found. found) wrong_contexts result (contexts_of contexts) (AreFound contexts) (are_found contexts) h
+
+pub is_refused : (contexts : List Context) (result : Result FtContexts ContextFault) → TellsContexts contexts result
+    → Refuses wrong_contexts result ((found : FtContexts) → AreFound contexts found → ⊥)
+is_refused contexts result h =
+    told_refused (λ found. found) wrong_contexts result (contexts_of contexts) ((found : FtContexts) → AreFound contexts found → ⊥)
+    (λ wrong e found a. ok_err found wrong (sym (found_are contexts found a) ∙ e)) h

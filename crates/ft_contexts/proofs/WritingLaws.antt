@@ -2,10 +2,11 @@
 use Rattle.std.proofs.Common.{◌≡◌, ℕ, ◌+◌, ◌<◌, ◌≤◌, ◌^◌, Bool, false, cond, eqb, ltb, List, [], ◌∷◌, ◌++◌, length, Option, Some, None, Result, Ok, Err, refl, sym, ap, subst, ◌∙◌, arith, le-ltb, length-append, lit<, SFits}
 use Rattle.std.specs.Int.{w32, cast_unsigned}
 use Rattle.ft_base.specs.declared.requests.Key.{Key}
-use Rattle.cdr_codec.specs.Formats.{number, written_number, followed}
-use Rattle.cdr_codec.specs.Values.{signed}
+use Rattle.cdr_codec.specs.Formats.{written_number}
 use Rattle.cdr_codec.specs.Calls.{Writer, appended}
-use Rattle.cdr_codec.proofs.Writing.{pair_written}
+use Rattle.cdr_codec.specs.Structs.{appended_fields}
+use Rattle.cdr_codec.specs.Encapsulations.{encapsulated}
+use Rattle.cdr_codec.proofs.StructLaws.{struct_written}
 use Rattle.std.specs.Prelude.{◌-◌, ◌%◌, IfOk, IfSome, option_map, replicate}
 use Rattle.std.specs.List.{All}
 use Rattle.std.proofs.lemmas.List.{length-replicate}
@@ -25,20 +26,17 @@ use Rattle.cdr_codec.specs.declared.orders.Order.TheVariants.{Big}
 use Rattle.cdr_codec.specs.Values.{text}
 use Rattle.cdr_codec.proofs.ValueLaws.{text_valid, signed_valid}
 use Rattle.cdr_codec.proofs.EncapsulationLaws.{inside_written}
+use Rattle.ft_contexts.specs.declared.lists.TheConstants.{FT_GROUP_VERSION, FT_REQUEST}
 use Rattle.ft_contexts.specs.declared.lists.Context.{Context}
-use Rattle.ft_contexts.specs.Contents.{group_version, unless_refused, name_of, client_id, request}
+use Rattle.ft_contexts.specs.Contents.{group_version, unless_refused, name_of, client_id, request_fields, request}
 use Rattle.ft_contexts.specs.Finding.{IsShort, contexts_of, AreFound}
-use Rattle.ft_contexts.specs.Writing.{encapsulated, context_of, written_contexts, told, IsWritable}
+use Rattle.ft_contexts.specs.Writing.{context_of, written_contexts, told, IsWritable}
 use Rattle.ft_contexts.proofs.ContentLaws.{group_version_codec, request_codec}
 use Rattle.ft_contexts.proofs.FindingLaws.{found_are}
 
 -- a key is its client, its retention id, and then the expiration
-pub request_written : (key : Key) (w : Writer)
-    → appended request.written key w
-    ≡ appended (number 8).written key.expiration.0 (appended (signed w32).written key.retention.0 (appended client_id.written key.client w))
-request_written key w =
-    pair_written client_id.written (λ client. (followed (signed w32) (λ retention. number 8)).written) (key.client, (key.retention.0, key.expiration.0)) w
-    ∙ pair_written (signed w32).written (λ retention. (number 8).written) (key.retention.0, key.expiration.0) (appended client_id.written key.client w)
+pub request_written : (key : Key) (w : Writer) → appended request.written key w ≡ appended_fields request_fields key w
+request_written key w = struct_written request_fields key w
 
 -- ---- what has a spelling
 
@@ -53,7 +51,7 @@ name_is t h =
 pub request_valid : (key : Key) → IsName key.client → SFits w32 key.retention.0 → key.expiration.0 < 2 ^ 64 → request.Valid key
 request_valid key name fits small =
     let text : text.Valid key.client = text_valid key.client name.no_zero (omega (arith, name.short)) in
-    ((text, name_is key.client name), (signed_valid w32 key.retention.0 fits (Fits-lt-pow (Fits-of_z fits)), small))
+    ((text, name_is key.client name), (signed_valid w32 key.retention.0 fits (Fits-lt-pow (Fits-of_z fits)), (small, refl)))
 
 -- ---- what is written is found
 
@@ -91,18 +89,20 @@ short_client : (place : ℕ) (t : List ℕ) → length t ≤ 255 → length (cli
 short_client place t h =
     omega (arith, h, length-append (written_number 4 Big place (length (t ++ 0 ∷ []))) (t ++ 0 ∷ []), length-append t (0 ∷ []), short_number 4 place (length (t ++ 0 ∷ [])) (lit< tt))
 
-short_version : (version : Version) → length (encapsulated group_version version) + 8 < 2 ^ 32
+short_version : (version : Version) → length (encapsulated Big group_version version) + 8 < 2 ^ 32
 short_version version = omega (arith, short_number 4 1 version.0 (lit< tt))
 
-short_key : (key : Key) → length key.client ≤ 255 → length (encapsulated request key) + 8 < 2 ^ 32
+short_key : (key : Key) → length key.client ≤ 255 → length (encapsulated Big request key) + 8 < 2 ^ 32
 short_key key h =
     let at = 1 + length (client_id.written Big 1 key.client) in
     let n = cast_unsigned w32 key.retention.0 in
     let after = at + length (written_number 4 Big at n) in
+    let last : List ℕ = written_number 8 Big after key.expiration.0 in
     omega (
       arith,
-      length-append (client_id.written Big 1 key.client) (written_number 4 Big at n ++ written_number 8 Big after key.expiration.0),
-      length-append (written_number 4 Big at n) (written_number 8 Big after key.expiration.0),
+      length-append (client_id.written Big 1 key.client) (written_number 4 Big at n ++ (last ++ [])),
+      length-append (written_number 4 Big at n) (last ++ []),
+      length-append last [],
       short_client 1 key.client h,
       short_number 4 at n (lit< tt),
       short_number 8 after key.expiration.0 (lit< tt),
@@ -111,16 +111,16 @@ short_key key h =
 short_one : (id : ℕ) (content : List ℕ) → length content + 8 < 2 ^ 32 → All IsShort (record { id = id; content = content } ∷ [])
 short_one id content h = All-cons IsShort (record { id = id; content = content }) [] h (All-nil IsShort)
 
-short_versions : (version : Option Version) → All IsShort (context_of group_version 12 version)
+short_versions : (version : Option Version) → All IsShort (context_of group_version FT_GROUP_VERSION version)
 short_versions None = All-nil IsShort
-short_versions (Some version) = short_one 12 (encapsulated group_version version) (short_version version)
+short_versions (Some version) = short_one FT_GROUP_VERSION (encapsulated Big group_version version) (short_version version)
 
-short_keys : (key : Option Key) → IfSome key IsWritable → All IsShort (context_of request 13 key)
+short_keys : (key : Option Key) → IfSome key IsWritable → All IsShort (context_of request FT_REQUEST key)
 short_keys None k = All-nil IsShort
-short_keys (Some key) k = short_one 13 (encapsulated request key) (short_key key k.name.short)
+short_keys (Some key) k = short_one FT_REQUEST (encapsulated Big request key) (short_key key k.name.short)
 
 short_contexts : (version : Option Version) (key : Option Key) → IfSome key IsWritable → All IsShort (written_contexts version key)
-short_contexts version key k = All-append IsShort (context_of group_version 12 version) (context_of request 13 key) (short_versions version) (short_keys key k)
+short_contexts version key k = All-append IsShort (context_of group_version FT_GROUP_VERSION version) (context_of request FT_REQUEST key) (short_versions version) (short_keys key k)
 
 pub are_short : (version : Option Version) (key : Option Key) (result : Result (List Context) NoMemory)
     → IfOk result (λ contexts. contexts ≡ written_contexts version key) → IfOk result (λ contexts. IfSome key IsWritable)

@@ -1,5 +1,5 @@
 -- What the two contexts hold, behind the byte order of their encapsulation.
-use Rattle.std.specs.Prelude.{◌≡◌, ℕ, List, Option, Some, None, Result, Ok, Err}
+use Rattle.std.specs.Prelude.{ℕ, List, Option, Some, None}
 use Rattle.std.specs.Int.{w32}
 use Rattle.ft_base.specs.Text.{name_refusal}
 use Rattle.ft_base.specs.declared.numbers.Version.{Version}
@@ -7,13 +7,9 @@ use Rattle.ft_base.specs.declared.requests.Key.{Key}
 use Rattle.ft_base.specs.declared.text.NameFault.{NameFault}
 use Rattle.cdr_codec.specs.declared.faults.CdrWhy.{CdrWhy}
 use Rattle.cdr_codec.specs.declared.faults.CdrWhy.TheVariants.{BadString}
-use Rattle.cdr_codec.specs.Reading.{Fault, ◌>>=◌}
-use Rattle.cdr_codec.specs.Formats.{Format, number, followed, judged, shaped}
+use Rattle.cdr_codec.specs.Formats.{Format, number, judged, shaped}
+use Rattle.cdr_codec.specs.Structs.{Fields, field, whole, struct}
 use Rattle.cdr_codec.specs.Values.{text, signed}
-use Rattle.cdr_codec.specs.Calls.{fault}
-use Rattle.cdr_codec.specs.Encapsulations.{inside}
-use Rattle.ft_contexts.specs.declared.reading.KeyFault.{KeyFault}
-use Rattle.ft_contexts.specs.declared.reading.KeyFault.TheVariants as keys
 
 -- FT_GROUP_VERSION: an unsigned long
 abbrev pub group_version : Format CdrWhy Version
@@ -32,25 +28,12 @@ abbrev pub client_id : Format CdrWhy (List ℕ)
 client_id = judged text 4 BadString name_of (λ name. name)
 
 -- FT_REQUEST: the client's id, the retention id as a long, the expiration as an unsigned long long
+abbrev pub request_fields : Fields CdrWhy Key
+request_fields =
+    field client_id (λ key. key.client) (λ client.
+    field (signed w32) (λ key. key.retention.0) (λ retention.
+    field (number 8) (λ key. key.expiration.0) (λ expiration.
+    whole (record { client = client; retention = record { 0 = retention }; expiration = record { 0 = expiration } }))))
+
 abbrev pub request : Format CdrWhy Key
-request =
-    shaped (followed client_id (λ client. followed (signed w32) (λ retention. number 8)))
-    (λ x. record { client = x.0; retention = record { 0 = x.1.0 }; expiration = record { 0 = x.1.1 } })
-    (λ key. (key.client, (key.retention.0, key.expiration.0)))
-
--- the value that a content holds; more may follow it
-abbrev pub held : {X : Type 0} → Format CdrWhy X → List ℕ → Result X (Fault CdrWhy)
-held f piece = inside f piece >>= λ x. Ok x.0
-
-abbrev pub key_fault : KeyFault → Option (Fault CdrWhy)
-key_fault (keys.Cdr e) = Some (fault e)
-key_fault keys.NoMemory = None
-
-abbrev pub OnWrong : {X : Type 0} → Option (Fault CdrWhy) → Result X (Fault CdrWhy) → Type 0
-OnWrong None value = Unit {0}
-OnWrong (Some wrong) value = value ≡ Err wrong
-
--- the call answered the value, or what is wrong, or that there is no memory
-abbrev pub Holds : {X : Type 0} → Result X KeyFault → Result X (Fault CdrWhy) → Type 0
-Holds (Ok x) value = value ≡ Ok x
-Holds (Err e) value = OnWrong (key_fault e) value
+request = struct request_fields

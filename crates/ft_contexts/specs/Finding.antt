@@ -2,14 +2,17 @@
 use Rattle.std.specs.Prelude.{◌≡◌, ℕ, ◌+◌, ◌==◌, ◌<◌, ◌^◌, Bool, false, nat_lt, if◌then◌else◌, List, length, Option, Some, None, option_map, Result, Ok, Err}
 use Rattle.std.specs.List.{filter, find}
 use Rattle.cdr_codec.specs.declared.faults.CdrWhy.{CdrWhy}
+use Rattle.cdr_codec.specs.declared.faults.FieldFault.{FieldFault}
+use Rattle.cdr_codec.specs.declared.faults.FieldFault.TheVariants as fields
 use Rattle.cdr_codec.specs.Reading.{Fault, ◌>>=◌}
 use Rattle.cdr_codec.specs.Formats.{Format}
-use Rattle.cdr_codec.specs.Encapsulations.{Encapsulates}
+use Rattle.cdr_codec.specs.Encapsulations.{Encapsulates, held}
+use Rattle.ft_contexts.specs.declared.lists.TheConstants.{FT_GROUP_VERSION, FT_REQUEST}
 use Rattle.ft_contexts.specs.declared.lists.Context.{Context}
 use Rattle.ft_contexts.specs.declared.lists.FtContexts.{FtContexts}
 use Rattle.ft_contexts.specs.declared.faults.ContextFault.{ContextFault}
 use Rattle.ft_contexts.specs.declared.faults.ContextFault.TheVariants.{Twice, Bad, NoMemory}
-use Rattle.ft_contexts.specs.Contents.{group_version, request, held}
+use Rattle.ft_contexts.specs.Contents.{group_version, request}
 
 -- a content whose places fit an unsigned long
 abbrev pub IsShort : Context → Type 0
@@ -28,6 +31,10 @@ stands_twice id contexts = nat_lt 1 (length (with_id id contexts))
 abbrev pub content_of : ℕ → List Context → Option (List ℕ)
 content_of id contexts = option_map (λ context. context.content) (find (has_id id) contexts)
 
+abbrev pub context_fault : ℕ → FieldFault → ContextFault
+context_fault id (fields.Bad wrong) = Bad id wrong.place
+context_fault id fields.NoMemory = NoMemory
+
 abbrev pub or_bad : {X : Type 0} → ℕ → Result X (Fault CdrWhy) → Result (Option X) ContextFault
 or_bad id (Ok x) = Ok (Some x)
 or_bad id (Err wrong) = Err (Bad id wrong.place)
@@ -43,9 +50,9 @@ found_by f id contexts = found_in f id (content_of id contexts)
 -- neither of the two may stand twice; then each is read that is there
 abbrev pub contexts_of : List Context → Result FtContexts ContextFault
 contexts_of contexts =
-    if stands_twice 12 contexts then Err (Twice 12)
-    else (if stands_twice 13 contexts then Err (Twice 13)
-    else (found_by group_version 12 contexts >>= λ version. found_by request 13 contexts >>= λ key.
+    if stands_twice FT_GROUP_VERSION contexts then Err (Twice FT_GROUP_VERSION)
+    else (if stands_twice FT_REQUEST contexts then Err (Twice FT_REQUEST)
+    else (found_by group_version FT_GROUP_VERSION contexts >>= λ version. found_by request FT_REQUEST contexts >>= λ key.
     Ok (record { version = version; key = key })))
 
 -- a content is the encapsulation of this value; where there is none, there is no value
@@ -57,21 +64,13 @@ IsFoundIn f (Some piece) (Some x) = Encapsulates f.Spelled piece x
 
 -- each of the two stands at most once, and encapsulates the value
 pub record AreFound (contexts : List Context) (found : FtContexts) : Type 0 where
-  pub one_version : stands_twice 12 contexts ≡ false
-  pub one_key : stands_twice 13 contexts ≡ false
-  pub version : IsFoundIn group_version (content_of 12 contexts) found.version
-  pub key : IsFoundIn request (content_of 13 contexts) found.key
+  pub one_version : stands_twice FT_GROUP_VERSION contexts ≡ false
+  pub one_key : stands_twice FT_REQUEST contexts ≡ false
+  pub version : IsFoundIn group_version (content_of FT_GROUP_VERSION contexts) found.version
+  pub key : IsFoundIn request (content_of FT_REQUEST contexts) found.key
 
--- a fact of each refusal that isn't want of memory
-abbrev pub Refuses : {X : Type 0} → Result X ContextFault → Type 0 → Type 0
-Refuses (Ok x) P = Unit {0}
-Refuses (Err NoMemory) P = Unit {0}
-Refuses (Err (Twice id)) P = P
-Refuses (Err (Bad id place)) P = P
-
--- a call answered this, or that there is no memory
-abbrev pub Answers : {X : Type 0} → Result X ContextFault → Result X ContextFault → Type 0
-Answers (Ok x) value = value ≡ Ok x
-Answers (Err NoMemory) value = Unit {0}
-Answers (Err (Twice id)) value = value ≡ Err (Twice id)
-Answers (Err (Bad id place)) value = value ≡ Err (Bad id place)
+-- what is wrong with contexts; nothing for want of memory
+abbrev pub wrong_contexts : ContextFault → Option ContextFault
+wrong_contexts NoMemory = None
+wrong_contexts (Twice id) = Some (Twice id)
+wrong_contexts (Bad id place) = Some (Bad id place)

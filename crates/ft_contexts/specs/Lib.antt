@@ -1,3 +1,4 @@
+pub mod Lists
 pub mod Contents
 pub mod Finding
 pub mod Writing

@@ -6,22 +6,19 @@ use Rattle.ft_base.specs.declared.requests.Key.{Key}
 use Rattle.cdr_codec.specs.declared.orders.Order.TheVariants.{Big}
 use Rattle.cdr_codec.specs.declared.faults.CdrWhy.{CdrWhy}
 use Rattle.cdr_codec.specs.Formats.{Format}
-use Rattle.cdr_codec.specs.Encapsulations.{order_sign}
+use Rattle.cdr_codec.specs.Encapsulations.{encapsulated}
+use Rattle.ft_contexts.specs.declared.lists.TheConstants.{FT_GROUP_VERSION, FT_REQUEST}
 use Rattle.ft_contexts.specs.declared.lists.Context.{Context}
 use Rattle.ft_contexts.specs.declared.lists.FtContexts.{FtContexts}
 use Rattle.ft_contexts.specs.Contents.{group_version, request}
 
--- the encapsulation of a value
-abbrev pub encapsulated : {X : Type 0} → Format CdrWhy X → X → List ℕ
-encapsulated f x = order_sign Big ∷ f.written Big 1 x
-
 -- the context with this id, if there is a value
 abbrev pub context_of : {X : Type 0} → Format CdrWhy X → ℕ → Option X → List Context
 context_of f id None = []
-context_of f id (Some x) = record { id = id; content = encapsulated f x } ∷ []
+context_of f id (Some x) = record { id = id; content = encapsulated Big f x } ∷ []
 
 abbrev pub written_contexts : Option Version → Option Key → List Context
-written_contexts version key = context_of group_version 12 version ++ context_of request 13 key
+written_contexts version key = context_of group_version FT_GROUP_VERSION version ++ context_of request FT_REQUEST key
 
 abbrev pub told : Option Version → Option Key → FtContexts
 told version key = record { version = version; key = key }

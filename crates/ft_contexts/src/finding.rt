@@ -1,12 +1,14 @@
 ghost use Rattle.std.specs.Prelude.{◌≡◌, ◌+◌, ◌<◌, ◌^◌, length, IfOk, IfSome, option_map};
 ghost use Rattle.std.specs.List.{All};
+ghost use Rattle.cdr_codec.specs.Calls.{Tells, Refuses};
 ghost use Rattle.ft_contexts.specs.declared.lists.FtContexts.{FtContexts as Told};
 ghost use Rattle.ft_contexts.specs.Contents.{group_version, request};
-ghost use Rattle.ft_contexts.specs.Finding.{IsShort, with_id, stands_twice, content_of, found_by, contexts_of, AreFound, Answers, Refuses};
+ghost use Rattle.ft_contexts.specs.Finding.{IsShort, with_id, stands_twice, content_of, found_by, contexts_of, AreFound, context_fault, wrong_contexts};
 
 use crate::faults::ContextFault;
 use crate::lists::{Context, Contexts, FT_GROUP_VERSION, FT_REQUEST, FtContexts};
-use crate::reading::{KeyFault, key_in, version_in};
+use crate::reading::{key_in, version_in};
+use cdr_codec::FieldFault;
 use ft_base::{Key, Version};
 use std::alloc::Global;
 
@@ -33,42 +35,48 @@ fn content_of(contexts: &[Context], id: u32) -> Option<&[u8]>
     }
 }
 
+/// A fault of the context with this id.
+fn fault_in(id: u32, fault: FieldFault) -> ContextFault
+    ensures { result ≡ context_fault id fault }
+{
+    match fault {
+        FieldFault::Bad(fault) => ContextFault::Bad {
+            id,
+            place: fault.place,
+        },
+        FieldFault::NoMemory => ContextFault::NoMemory,
+    }
+}
+
 fn find_version(contexts: &[Context]) -> Result<Option<Version>, ContextFault>
     requires { All IsShort contexts.now }
-    ensures { result ≡ found_by group_version 12 contexts.now }
+    ensures { Tells (λ found. found) wrong_contexts result (found_by group_version FT_GROUP_VERSION contexts.now) }
 {
     match content_of(contexts, FT_GROUP_VERSION) {
         None => Ok(None),
         Some(piece) => match version_in(piece) {
             Ok(version) => Ok(Some(version)),
-            Err(fault) => Err(ContextFault::Bad {
-                id: FT_GROUP_VERSION,
-                place: fault.place,
-            }),
+            Err(fault) => Err(fault_in(FT_GROUP_VERSION, fault)),
         },
     }
 }
 
 fn find_key(alloc: Global, contexts: &[Context]) -> Result<Option<Key>, ContextFault>
     requires { All IsShort contexts.now }
-    ensures { Answers result (found_by request 13 contexts.now) }
+    ensures { Tells (λ found. found) wrong_contexts result (found_by request FT_REQUEST contexts.now) }
 {
     match content_of(contexts, FT_REQUEST) {
         None => Ok(None),
         Some(piece) => match key_in(alloc, piece) {
             Ok(key) => Ok(Some(key)),
-            Err(KeyFault::Cdr(fault)) => Err(ContextFault::Bad {
-                id: FT_REQUEST,
-                place: fault.place,
-            }),
-            Err(KeyFault::NoMemory) => Err(ContextFault::NoMemory),
+            Err(fault) => Err(fault_in(FT_REQUEST, fault)),
         },
     }
 }
 
 fn find_exactly(alloc: Global, contexts: &[Context]) -> Result<FtContexts, ContextFault>
     requires { All IsShort contexts.now }
-    ensures { Answers result (contexts_of contexts.now) }
+    ensures { Tells (λ found. found) wrong_contexts result (contexts_of contexts.now) }
 {
     if is_twice(contexts, FT_GROUP_VERSION) {
         return Err(ContextFault::Twice(FT_GROUP_VERSION));
@@ -85,9 +93,9 @@ fn find_exactly(alloc: Global, contexts: &[Context]) -> Result<FtContexts, Conte
 /// other ids are ignored, and so is what follows the last field of these two.
 pub fn find_contexts(alloc: Global, contexts: &Contexts) -> Result<FtContexts, ContextFault>
     requires { All IsShort contexts.now }
-    ensures found { IfOk result (λ found. AreFound contexts.now found) }
-    ensures refused { Refuses result ((found : Told) → AreFound contexts.now found → ⊥) }
-    ensures value { Answers result (contexts_of contexts.now) }
+    ensures found { IfOk result (AreFound contexts.now) }
+    ensures refused { Refuses wrong_contexts result ((found : Told) → AreFound contexts.now found → ⊥) }
+    ensures value { Tells (λ found. found) wrong_contexts result (contexts_of contexts.now) }
 {
     find_exactly(alloc, contexts.as_slice())
 }

@@ -1,5 +1,6 @@
 ghost use Rattle.std.specs.Prelude.{◌≡◌};
 
+use cdr_codec::Tagged;
 use ft_base::{Bytes, Key, Version};
 use std::marker::Model;
 
@@ -22,6 +23,31 @@ pub struct Context {
 #[derive(Drop)]
 pub struct Contexts {
     contexts: Vec<Context>,
+}
+
+impl Tagged for Context {
+    ghost use Rattle.std.specs.Prelude.{refl};
+    ghost use Rattle.ft_contexts.specs.Lists.{context_with, context_parts};
+
+    ghost made = { context_with };
+
+    ghost parts = { context_parts };
+
+    fn behind(tag: u32, content: Bytes) -> Context {
+        Context { id: tag, content }
+    }
+
+    fn tag(&self) -> u32 {
+        self.id
+    }
+
+    fn content(&self) -> &[u8] {
+        self.content.bytes()
+    }
+
+    ghost kept = { λ x. refl };
+
+    ghost whole = { λ one. refl };
 }
 
 impl Model for Contexts {

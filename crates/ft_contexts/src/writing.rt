@@ -1,30 +1,22 @@
 ghost use Rattle.std.specs.Prelude.{◌≡◌, ◌∷◌, [], ◌++◌, ◌+◌, ◌<◌, ◌^◌, length, IfOk, IfSome, OnOk, Ok, option_map};
 ghost use Rattle.std.specs.List.{All};
 ghost use Rattle.cdr_codec.specs.Calls.{appended};
+ghost use Rattle.cdr_codec.specs.Encapsulations.{encapsulated};
 ghost use Rattle.ft_base.specs.Text.{IsName};
 ghost use Rattle.ft_contexts.specs.Contents.{group_version, request};
 ghost use Rattle.ft_contexts.specs.Finding.{IsShort, contexts_of};
-ghost use Rattle.ft_contexts.specs.Writing.{encapsulated, context_of, written_contexts, told, IsWritable};
+ghost use Rattle.ft_contexts.specs.Writing.{context_of, written_contexts, told, IsWritable};
 
 use crate::lists::{Context, Contexts, FT_GROUP_VERSION, FT_REQUEST};
-use cdr_codec::{CdrWriter, Order};
+use cdr_codec::{CdrWriter, Order, begin_encapsulation};
 use ft_base::{Bytes, Key, NoMemory, Version};
 use std::alloc::Global;
 
-/// A writer that began an encapsulation in big endian order.
-fn begin(alloc: Global) -> Result<CdrWriter, NoMemory>
-    ensures { IfOk result (λ writer. writer ≡ record { order = Order.Big; place = 0; text = 0 ∷ [] }) }
-{
-    let mut writer = CdrWriter::new(alloc, Order::Big, 0);
-    writer.write_octet(0)?;
-    Ok(writer)
-}
-
 fn version_content(alloc: Global, version: Version) -> Result<Bytes, NoMemory>
-    ensures content { IfOk result (λ content. content ≡ encapsulated group_version version) }
+    ensures content { IfOk result (λ content. content ≡ encapsulated Order.Big group_version version) }
     ensures valid { group_version.Valid version }
 {
-    let mut writer = begin(alloc)?;
+    let mut writer = begin_encapsulation(alloc, Order::Big)?;
     writer.write_u32(version.0)?;
     Ok(writer.finish())
 }
@@ -44,11 +36,11 @@ fn write_key(writer: &mut CdrWriter, key: &Key) -> Result<(), NoMemory>
 }
 
 fn key_content(alloc: Global, key: &Key) -> Result<Bytes, NoMemory>
-    ensures content { IfOk result (λ content. content ≡ encapsulated request key.now) }
+    ensures content { IfOk result (λ content. content ≡ encapsulated Order.Big request key.now) }
     ensures valid { IfOk result (λ content. request.Valid key.now) }
     ensures name { IfOk result (λ content. IsName key.now.client) }
 {
-    let mut writer = begin(alloc)?;
+    let mut writer = begin_encapsulation(alloc, Order::Big)?;
     write_key(&mut writer, key)?;
     Ok(writer.finish())
 }
@@ -58,7 +50,7 @@ fn add_version(
     contexts: &mut Vec<Context>,
     version: Option<Version>,
 ) -> Result<(), NoMemory>
-    ensures added { OnOk result (contexts.new.items ≡ contexts.old.items ++ context_of group_version 12 version) }
+    ensures added { OnOk result (contexts.new.items ≡ contexts.old.items ++ context_of group_version FT_GROUP_VERSION version) }
     ensures valid { OnOk result (IfSome version group_version.Valid) }
 {
     if let Some(version) = version {
@@ -72,7 +64,7 @@ fn add_version(
 }
 
 fn add_key(alloc: Global, contexts: &mut Vec<Context>, key: Option<&Key>) -> Result<(), NoMemory>
-    ensures added { OnOk result (contexts.new.items ≡ contexts.old.items ++ context_of request 13 (option_map (λ key. key.now) key.entry)) }
+    ensures added { OnOk result (contexts.new.items ≡ contexts.old.items ++ context_of request FT_REQUEST (option_map (λ key. key.now) key.entry)) }
     ensures valid { OnOk result (IfSome (option_map (λ key. key.now) key.entry) IsWritable) }
 {
     if let Some(key) = key {

@@ -1,3 +1,5 @@
 pub mod Outside
 pub mod Schedules
 pub mod Memory
+pub mod Standard
+pub mod Keeping

@@ -1,6 +1,7 @@
 -- Which calls of a form in memory fail.
-use Rattle.std.specs.Prelude.{ℕ, ◌+◌, ◌==◌, if◌then◌else◌, Bool, List}
+use Rattle.std.specs.Prelude.{ℕ, ◌==◌, Bool, List}
 use Rattle.std.specs.List.{list_any}
+use Rattle.ft_outside.specs.Outside.{next_count}
 
 pub record Schedule : Type 0 where
   -- how many calls there were
@@ -10,18 +11,14 @@ pub record Schedule : Type 0 where
   -- how many faults there were
   pub faults : ℕ
 
--- one more, but at the end of a count
-abbrev pub next : ℕ → ℕ
-next n = if n == 18446744073709551615 then n else n + 1
-
 -- the next call is to fail
 abbrev pub is_failing : Schedule → Bool
-is_failing s = list_any (λ number. number == next s.calls) s.fails
+is_failing s = list_any (λ number. number == next_count s.calls) s.fails
 
--- after a call
-abbrev pub called : Schedule → Schedule
-called s = record s { calls = next s.calls }
+-- a schedule after a call that didn't fail
+abbrev pub after_call : Schedule → Schedule
+after_call s = record s { calls = next_count s.calls }
 
--- after a call that failed
-abbrev pub failed : Schedule → Schedule
-failed s = record s { calls = next s.calls; faults = next s.faults }
+-- a schedule after a call that failed
+abbrev pub after_fault : Schedule → Schedule
+after_fault s = record s { calls = next_count s.calls; faults = next_count s.faults }

@@ -1,9 +1,12 @@
 //! The outside of `ftc`: where bytes come from and go to. A source and a sink may tell what they
 //! have left and what they hold, and each counts its faults, so that a contract can say what was
 //! read and written, and that a failure is answered only where there was one. Forms in memory tell
-//! all of it; the adapters to the system tell their faults alone.
+//! all of it. Of the adapters to the system a run sees their faults alone; their own clauses say that they
+//! answer what their device did.
 #![tactic(auto)]
 
+mod keepers;
+mod mem_keepers;
 mod mem_sinks;
 mod mem_sources;
 mod schedules;
@@ -12,12 +15,14 @@ mod sources;
 mod standard;
 mod wholes;
 
+pub use keepers::{Keeper, Kept};
+pub use mem_keepers::MemKeeper;
 pub use mem_sinks::MemSink;
 pub use mem_sources::MemSource;
 pub use sinks::{Put, Sink};
 pub use sources::{Got, Source};
 pub use standard::{StdSink, StdSource};
-pub use wholes::{Wrote, write_all};
+pub use wholes::{WholeWrite, write_all};
 
 #[cfg(test)]
 mod tests;

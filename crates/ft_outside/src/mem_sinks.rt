@@ -1,6 +1,6 @@
 ghost use Rattle.std.specs.Prelude.{◌≡◌, ℕ, ◌<◌, Some, IfOk, [], length};
 ghost use Rattle.ft_outside.specs.Outside.{IsWritten};
-ghost use Rattle.ft_outside.specs.Memory.{IsStored};
+ghost use Rattle.ft_outside.specs.Memory.{IsWriteToStore};
 
 use crate::schedules::Schedule;
 use crate::sinks::{Put, Sink};
@@ -10,7 +10,7 @@ use std::marker::Model;
 
 /// A sink in memory with room for a stated number of bytes, which fails past it and where it was
 /// told to. A write takes no memory.
-#[derive(Drop)]
+#[derive(Debug, Drop)]
 pub struct MemSink {
     bytes: Vec<u8>,
     room: u64,
@@ -52,7 +52,7 @@ impl MemSink {
 
     fn store(&mut self, piece: &[u8]) -> Put
         requires { 0 < length piece.now }
-        ensures { IsStored self.old self.new piece.now result }
+        ensures { IsWriteToStore self.old self.new piece.now result }
     {
         let free = self.room as usize - self.bytes.len();
         if self.schedule.is_failing() || free < piece.len() {
@@ -72,11 +72,11 @@ impl Sink for MemSink {
 
     ghost count = { λ sink. sink.schedule.faults };
 
-    #[tactic(auto, using(crate::proofs::Memories::written_of_stored))]
+    #[tactic(auto, using(crate::proofs::Memories::write_to_store))]
     fn write(&mut self, piece: &[u8]) -> Put
         requires { 0 < length piece.now }
         ensures written { IsWritten (Some self.old.held) (Some self.new.held) self.old.schedule.faults self.new.schedule.faults piece.now result }
-        ensures exact { IsStored self.old self.new piece.now result }
+        ensures exact { IsWriteToStore self.old self.new piece.now result }
     {
         self.store(piece)
     }

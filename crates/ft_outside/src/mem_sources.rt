@@ -1,6 +1,6 @@
 ghost use Rattle.std.specs.Prelude.{◌≡◌, ℕ, ◌<◌, Some, IfOk, length};
 ghost use Rattle.ft_outside.specs.Outside.{IsRead};
-ghost use Rattle.ft_outside.specs.Memory.{IsFed};
+ghost use Rattle.ft_outside.specs.Memory.{IsReadOfFeed};
 
 use crate::schedules::Schedule;
 use crate::sources::{Got, Source};
@@ -9,7 +9,7 @@ use std::alloc::Global;
 use std::marker::Model;
 
 /// A source in memory, which fails where it was told to. A read takes no memory.
-#[derive(Drop)]
+#[derive(Debug, Drop)]
 pub struct MemSource {
     bytes: Vec<u8>,
     start: usize,
@@ -45,7 +45,7 @@ impl MemSource {
     #[tactic(auto, using(std::proofs::lemmas::List::nil_from_length))]
     fn feed(&mut self, into: &mut [u8]) -> Got
         requires { 0 < length into.old }
-        ensures { IsFed self.old self.new into.new result }
+        ensures { IsReadOfFeed self.old self.new into.new result }
     {
         if self.schedule.is_failing() {
             self.schedule.fail();
@@ -70,11 +70,11 @@ impl Source for MemSource {
 
     ghost count = { λ source. source.schedule.faults };
 
-    #[tactic(auto, using(crate::proofs::Memories::read_of_fed))]
+    #[tactic(auto, using(crate::proofs::Memories::read_of_feed))]
     fn read(&mut self, into: &mut [u8]) -> Got
         requires { 0 < length into.old }
         ensures read { IsRead (Some self.old.left) (Some self.new.left) self.old.schedule.faults self.new.schedule.faults into.new result }
-        ensures exact { IsFed self.old self.new into.new result }
+        ensures exact { IsReadOfFeed self.old self.new into.new result }
     {
         self.feed(into)
     }

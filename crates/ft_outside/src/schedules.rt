@@ -1,13 +1,13 @@
 ghost use Rattle.std.specs.Prelude.{◌≡◌, ℕ, IfOk};
-ghost use Rattle.ft_outside.specs.Outside.{Rose};
-ghost use Rattle.ft_outside.specs.Schedules.{next, is_failing, called, failed};
+ghost use Rattle.ft_outside.specs.Outside.{next_count};
+ghost use Rattle.ft_outside.specs.Schedules.{is_failing, after_call, after_fault};
 
 use ft_base::NoMemory;
 use std::alloc::Global;
 use std::marker::Model;
 
 /// Which calls of a form in memory are to fail, and how many did.
-#[derive(Drop)]
+#[derive(Debug, Drop)]
 pub struct Schedule {
     calls: u64,
     fails: Vec<u64>,
@@ -22,10 +22,9 @@ impl Model for Schedule {
     ghost view = { λ s. record { calls = s.calls; fails = s.fails.items; faults = s.faults } };
 }
 
-/// One more, but at the end of a count.
-pub fn next(count: u64) -> u64
-    ensures value { result ≡ next count }
-    ensures rose { Rose count result }
+/// One more, but at the end of 64 bits.
+pub fn next_count(count: u64) -> u64
+    ensures { result ≡ next_count count }
 {
     count.saturating_add(1)
 }
@@ -47,22 +46,22 @@ impl Schedule {
     pub fn is_failing(&self) -> bool
         ensures { result ≡ is_failing self.now }
     {
-        let number = next(self.calls);
+        let number = next_count(self.calls);
         self.fails.as_slice().contains(&number)
     }
 
     /// Counts a call.
     pub fn pass(&mut self)
-        ensures { self.new ≡ called self.old }
+        ensures { self.new ≡ after_call self.old }
     {
-        self.calls = next(self.calls);
+        self.calls = next_count(self.calls);
     }
 
     /// Counts a call that failed.
     pub fn fail(&mut self)
-        ensures { self.new ≡ failed self.old }
+        ensures { self.new ≡ after_fault self.old }
     {
-        self.calls = next(self.calls);
-        self.faults = next(self.faults);
+        self.calls = next_count(self.calls);
+        self.faults = next_count(self.faults);
     }
 }

@@ -7,8 +7,8 @@ pub enum Put {
 
 /// Where bytes go to.
 ///
-/// `holds` is all that a sink has taken, where it tells that, and `count` its number of faults,
-/// which never falls and ends at 2^64 - 1.
+/// `holds` is all that a sink has taken, where it tells that, and `count` its number of faults: each
+/// fault adds one, up to its end at 2^64 - 1, and nothing else changes it.
 pub trait Sink {
     ghost use Rattle.std.specs.Prelude.{ℕ, ◌<◌, List, length, Option};
     ghost use Rattle.ft_outside.specs.Outside.{IsWritten};

@@ -8,8 +8,8 @@ pub enum Got {
 
 /// Where bytes come from.
 ///
-/// `left` is what a source has left, where it tells that, and `count` its number of faults, which
-/// never falls and ends at 2^64 - 1.
+/// `left` is what a source has left, where it tells that, and `count` its number of faults: each
+/// fault adds one, up to its end at 2^64 - 1, and nothing else changes it.
 pub trait Source {
     ghost use Rattle.std.specs.Prelude.{ℕ, ◌<◌, List, length, Option};
     ghost use Rattle.ft_outside.specs.Outside.{IsRead};

@@ -1,44 +1,50 @@
-ghost use Rattle.std.specs.Prelude.{◌≡◌, ℕ};
+ghost use Rattle.std.specs.Prelude.{◌≡◌, ℕ, ◌<◌, None, length};
+ghost use Rattle.ft_outside.specs.Outside.{IsRead, IsWritten};
+ghost use Rattle.ft_outside.specs.Standard.{IsReadOfDevice, IsWriteToDevice};
 
-use crate::schedules::next;
+use crate::schedules::next_count;
 use crate::sinks::{Put, Sink};
 use crate::sources::{Got, Source};
-use std::io::Read;
+use std::io::{Read, Write};
 use std::marker::Model;
 
-/// A source over a reader of the system, as `rt.reader()` for standard input. Contracts see its
-/// number of faults: a read that answers an error is one. It tells nothing of its bytes.
-#[derive(Drop)]
+/// A source over a reader of the system, as `rt.reader()` for standard input. A read that answers an
+/// error is a fault. A run sees its number of faults alone, and nothing of its bytes.
+#[derive(Debug, Drop)]
 pub struct StdSource<R: Read + Drop> {
     reader: R,
     faults: u64,
 }
 
-/// A sink over standard output or standard error, as `rt.stdout()` and `rt.stderr()`. Contracts
-/// see its number of faults: a write that answers an error, or takes nothing, is one. It tells
-/// nothing of its bytes.
-#[derive(Drop)]
-pub struct StdSink<P: Print + Drop> {
-    printer: P,
+/// A sink over a writer of the system, as `rt.stdout()` and `rt.stderr()`. A write that answers an
+/// error, or takes nothing, is a fault. A run sees its number of faults alone, and nothing of its
+/// bytes.
+#[derive(Debug, Drop)]
+pub struct StdSink<W: Write + Drop> {
+    writer: W,
     faults: u64,
 }
 
 impl<R: Read + Drop> Model for StdSource<R> {
-    ghost Value = { ℕ };
+    ghost use Rattle.ft_outside.specs.Standard.{Adapter};
 
-    ghost view = { λ source. source.faults };
+    ghost Value = { Adapter R };
+
+    ghost view = { λ source. record { device = source.reader; faults = source.faults } };
 }
 
-impl<P: Print + Drop> Model for StdSink<P> {
-    ghost Value = { ℕ };
+impl<W: Write + Drop> Model for StdSink<W> {
+    ghost use Rattle.ft_outside.specs.Standard.{Adapter};
 
-    ghost view = { λ sink. sink.faults };
+    ghost Value = { Adapter W };
+
+    ghost view = { λ sink. record { device = sink.writer; faults = sink.faults } };
 }
 
 impl<R: Read + Drop> StdSource<R> {
     /// A source over this reader, with no faults so far.
     pub fn new(reader: R) -> StdSource<R>
-        ensures { result ≡ 0 }
+        ensures { result ≡ record { device = reader; faults = 0 } }
     {
         StdSource { reader, faults: 0 }
     }
@@ -49,40 +55,48 @@ impl<R: Read + Drop> Source for StdSource<R> {
 
     ghost left = { λ _. None };
 
-    ghost count = { λ faults. faults };
+    ghost count = { λ source. source.faults };
 
-    fn read(&mut self, into: &mut [u8]) -> Got {
+    fn read(&mut self, into: &mut [u8]) -> Got
+        requires { 0 < length into.old }
+        ensures read { IsRead None None self.old.faults self.new.faults into.new result }
+        ensures device { IsReadOfDevice (R.remaining self.old.device) (R.remaining self.new.device) into.new result }
+    {
         match self.reader.read(into) {
             Ok(0) => Got::End,
             Ok(count) => Got::Bytes(count),
             Err(_) => {
-                self.faults = next(self.faults);
+                self.faults = next_count(self.faults);
                 Got::Failed
             }
         }
     }
 }
 
-impl<P: Print + Drop> StdSink<P> {
-    /// A sink over this printer, with no faults so far.
-    pub fn new(printer: P) -> StdSink<P>
-        ensures { result ≡ 0 }
+impl<W: Write + Drop> StdSink<W> {
+    /// A sink over this writer, with no faults so far.
+    pub fn new(writer: W) -> StdSink<W>
+        ensures { result ≡ record { device = writer; faults = 0 } }
     {
-        StdSink { printer, faults: 0 }
+        StdSink { writer, faults: 0 }
     }
 }
 
-impl<P: Print + Drop> Sink for StdSink<P> {
+impl<W: Write + Drop> Sink for StdSink<W> {
     ghost use Rattle.std.specs.Prelude.{None};
 
     ghost holds = { λ _. None };
 
-    ghost count = { λ faults. faults };
+    ghost count = { λ sink. sink.faults };
 
-    fn write(&mut self, piece: &[u8]) -> Put {
-        match self.printer.write_some(piece) {
+    fn write(&mut self, piece: &[u8]) -> Put
+        requires { 0 < length piece.now }
+        ensures written { IsWritten None None self.old.faults self.new.faults piece.now result }
+        ensures device { IsWriteToDevice (W.contents self.old.device) (W.contents self.new.device) piece.now result }
+    {
+        match self.writer.write(piece) {
             Ok(0) | Err(_) => {
-                self.faults = next(self.faults);
+                self.faults = next_count(self.faults);
                 Put::Failed
             }
             Ok(count) => Put::Took(count),

@@ -1,5 +1,17 @@
-use crate::{Got, MemSink, MemSource, Put, Sink, Source, StdSink, StdSource, Wrote, write_all};
-use ft_base::NoMemory;
+use crate::{
+    Got, Keeper, Kept, MemKeeper, MemSink, MemSource, Put, Sink, Source, StdSink, StdSource,
+    WholeWrite, write_all,
+};
+use ft_base::{Bytes, NoMemory};
+use std::io;
+use std::io::Write;
+
+fn record_is(keeper: &MemKeeper, index: u64, text: &[u8]) -> bool {
+    match keeper.read(index) {
+        Some(record) => record.bytes() == text,
+        None => false,
+    }
+}
 
 #[test]
 fn a_source_gives_its_bytes_in_pieces(rt: HostRuntime) -> Result<(), NoMemory> {
@@ -29,10 +41,10 @@ fn a_sink_fails_where_told_and_past_its_room(rt: HostRuntime) -> Result<(), NoMe
 #[test]
 fn a_text_is_written_whole_or_a_fault_is_told(rt: HostRuntime) -> Result<(), NoMemory> {
     let mut sink = MemSink::new(rt.alloc(), 8, &[2])?;
-    assert_eq!(rt; write_all(&mut sink, b"abc"), Wrote::All);
-    assert_eq!(rt; write_all(&mut sink, b"de"), Wrote::Failed);
-    assert_eq!(rt; write_all(&mut sink, b""), Wrote::All);
-    assert_eq!(rt; write_all(&mut sink, b"fg"), Wrote::All);
+    assert_eq!(rt; write_all(&mut sink, b"abc"), WholeWrite::All);
+    assert_eq!(rt; write_all(&mut sink, b"de"), WholeWrite::Failed);
+    assert_eq!(rt; write_all(&mut sink, b""), WholeWrite::All);
+    assert_eq!(rt; write_all(&mut sink, b"fg"), WholeWrite::All);
     assert_eq!(rt; sink.bytes(), b"abcfg".as_slice());
     Ok(())
 }
@@ -49,5 +61,55 @@ fn a_reader_of_the_system_is_read_to_its_end(rt: HostRuntime) {
 #[test]
 fn a_text_reaches_standard_output(rt: HostRuntime) {
     let mut sink = StdSink::new(rt.stdout());
-    assert_eq!(rt; write_all(&mut sink, b"out\n"), Wrote::All);
+    assert_eq!(rt; write_all(&mut sink, b"out\n"), WholeWrite::All);
+}
+
+// A device that takes two bytes a call, up to five in all, and then none.
+#[derive(Drop)]
+struct ShortWriter {
+    taken: usize,
+}
+
+impl Write for ShortWriter {
+    fn write(&mut self, buf: &[u8]) -> io::Result<usize> {
+        let left = 5usize.saturating_sub(self.taken);
+        let count = buf.len().min(2).min(left);
+        self.taken = self.taken.saturating_add(count);
+        Ok(count)
+    }
+
+    fn flush(&mut self) -> io::Result<()> {
+        Ok(())
+    }
+}
+
+#[test]
+fn a_short_write_is_told_as_short(rt: HostRuntime) {
+    let mut sink = StdSink::new(ShortWriter { taken: 0 });
+    assert_eq!(rt; sink.write(b"abc"), Put::Took(2));
+    assert_eq!(rt; write_all(&mut sink, b"cde"), WholeWrite::All);
+    assert_eq!(rt; sink.write(b"f"), Put::Failed);
+    assert_eq!(rt; write_all(&mut sink, b"f"), WholeWrite::Failed);
+}
+
+#[test]
+fn a_keeper_fails_where_planned_and_keeps_the_rest(rt: HostRuntime) -> Result<(), NoMemory> {
+    let alloc = rt.alloc();
+    let mut keeper = MemKeeper::new(alloc, &[2, 4])?;
+    keeper.reserve(alloc, 3)?;
+    assert_eq!(rt; keeper.append(Bytes::of(alloc, b"a")?), Kept::Done);
+    assert_eq!(rt; keeper.append(Bytes::of(alloc, b"b")?), Kept::Failed);
+    assert_eq!(rt; keeper.append(Bytes::of(alloc, b"c")?), Kept::Done);
+    assert_eq!(rt; keeper.cut(1), Kept::Failed);
+    assert_eq!(rt; keeper.count(), 2);
+    assert_eq!(rt; keeper.cut(1), Kept::Done);
+    assert!(rt; record_is(&keeper, 0, b"c"));
+    keeper.fail_next()?;
+    keeper.fail_next()?;
+    keeper.reserve(alloc, 2)?;
+    assert_eq!(rt; keeper.append(Bytes::of(alloc, b"d")?), Kept::Failed);
+    assert_eq!(rt; keeper.append(Bytes::of(alloc, b"e")?), Kept::Done);
+    assert!(rt; record_is(&keeper, 1, b"e"));
+    assert!(rt; keeper.read(2).is_none());
+    Ok(())
 }

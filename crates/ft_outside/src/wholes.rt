@@ -5,7 +5,7 @@ use crate::sinks::{Put, Sink};
 
 /// Whether a text was written whole.
 #[derive(Clone, Copy, Debug, PartialEq, Eq)]
-pub enum Wrote {
+pub enum WholeWrite {
     All,
     Failed,
 }
@@ -19,15 +19,15 @@ fn behind(text: &[u8], done: usize) -> &[u8]
 
 /// Writes a whole text, in as many pieces as the sink asks for, and stops at the first fault. An
 /// empty text is written with no call.
-pub fn write_all<B: Sink>(sink: &mut B, text: &[u8]) -> Wrote
+pub fn write_all<B: Sink>(sink: &mut B, text: &[u8]) -> WholeWrite
     ensures { IsWrittenWhole (B.holds sink.old) (B.holds sink.new) (B.count sink.old) (B.count sink.new) text.now result }
 {
     let mut done = 0;
     while done < text.len() {
         match sink.write(behind(text, done)) {
             Put::Took(count) => done += count,
-            Put::Failed => return Wrote::Failed,
+            Put::Failed => return WholeWrite::Failed,
         }
     }
-    Wrote::All
+    WholeWrite::All
 }

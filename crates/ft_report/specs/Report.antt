@@ -10,26 +10,29 @@ use Rattle.sys_faults.specs.declared.faults.SysKind.{SysKind}
 use Rattle.sys_faults.specs.declared.faults.SysKind.TheVariants.{Unknown}
 use Rattle.giop_messages.specs.declared.faults.Why.{Why}
 use Rattle.giop_messages.specs.declared.faults.Why.TheVariants as causes
-use Rattle.ft_report.specs.Words.{host_text, hosts_text, line, octets_text, spaced}
+use Rattle.ft_report.specs.Words.{host_text, hosts_text, line, octets_text, phrase_text}
 use Rattle.ft_report.specs.declared.outcomes.Worth.{Worth}
 use Rattle.ft_report.specs.declared.outcomes.Worth.TheVariants as worths
-use Rattle.ft_report.specs.declared.outcomes.Shown.{Shown}
-use Rattle.ft_report.specs.declared.outcomes.Shown.TheVariants.{Value, User, System, Forward, ForwardPerm}
+use Rattle.ft_report.specs.declared.outcomes.ReportOutcome.{ReportOutcome}
+use Rattle.ft_report.specs.declared.outcomes.ReportOutcome.TheVariants.{Value, User, System, Forward, ForwardPerm}
 use Rattle.ft_report.specs.declared.reports.Role.{Role}
 use Rattle.ft_report.specs.declared.reports.Role.TheVariants as roles
 use Rattle.ft_report.specs.declared.reports.ReportLine.{ReportLine}
 use Rattle.ft_report.specs.declared.reports.ReportLine.TheVariants as lines
 
+-- a boolean
 abbrev pub flag_text : Bool → List ℕ
 flag_text true = codes "true"
 flag_text false = codes "false"
 
+-- a value
 abbrev pub worth_text : Worth → List ℕ
 worth_text worths.Void = codes "void"
 worth_text (worths.Number number) = signed_decimal number
 worth_text (worths.Flag flag) = flag_text flag
 worth_text (worths.Octets octets) = octets_text octets
 
+-- whether the request was run
 abbrev pub completed_text : Completed → List ℕ
 completed_text Yes = codes "yes"
 completed_text No = codes "no"
@@ -40,21 +43,24 @@ abbrev pub kind_text : SysKind → List ℕ
 kind_text (Unknown id) = octets_text id
 kind_text kind = unwrap_or (kind_name kind) []
 
-abbrev pub shown_text : Shown → List ℕ
-shown_text (Value worth) = spaced (codes "value" ∷ worth_text worth ∷ [])
-shown_text (User name) = spaced (codes "user" ∷ name ∷ [])
-shown_text (System fault) =
-    spaced (codes "system" ∷ kind_text fault.kind ∷ decimal fault.minor ∷ completed_text fault.completed ∷ [])
-shown_text (Forward group version) = spaced (codes "forward" ∷ group ∷ decimal version.0 ∷ [])
-shown_text (ForwardPerm group version) = spaced (codes "forward-perm" ∷ group ∷ decimal version.0 ∷ [])
+-- what a request came to
+abbrev pub outcome_text : ReportOutcome → List ℕ
+outcome_text (Value worth) = phrase_text (codes "value" ∷ worth_text worth ∷ [])
+outcome_text (User name) = phrase_text (codes "user" ∷ name ∷ [])
+outcome_text (System fault) =
+    phrase_text (codes "system" ∷ kind_text fault.kind ∷ decimal fault.minor ∷ completed_text fault.completed ∷ [])
+outcome_text (Forward group version) = phrase_text (codes "forward" ∷ group ∷ decimal version.0 ∷ [])
+outcome_text (ForwardPerm group version) = phrase_text (codes "forward-perm" ∷ group ∷ decimal version.0 ∷ [])
 
--- a word and a number, and a word and two
+-- a word and a number
 abbrev pub with_number : List ℕ → ℕ → List ℕ
-with_number word n = spaced (word ∷ decimal n ∷ [])
+with_number word n = phrase_text (word ∷ decimal n ∷ [])
 
+-- a word and two numbers
 abbrev pub with_numbers : List ℕ → ℕ → ℕ → List ℕ
-with_numbers word n m = spaced (word ∷ decimal n ∷ decimal m ∷ [])
+with_numbers word n m = phrase_text (word ∷ decimal n ∷ decimal m ∷ [])
 
+-- what a host made of a request
 abbrev pub decision_text : Decision → List ℕ
 decision_text (decisions.Append place) = with_number (codes "append") place
 decision_text (decisions.Repeat place) = with_number (codes "repeat") place
@@ -73,6 +79,7 @@ decision_text (decisions.Marshal place) = with_number (codes "marshal") place
 decision_text (decisions.Long count) = with_number (codes "long") count
 decision_text (decisions.Context id) = with_number (codes "context") id
 
+-- what a member is
 abbrev pub role_text : Role → List ℕ
 role_text roles.Primary = codes "primary"
 role_text roles.Backup = codes "backup"
@@ -94,34 +101,34 @@ why_text causes.Address = codes "address"
 why_text causes.Status = codes "status"
 
 -- the bytes of each line
-abbrev pub rendered : ReportLine → List ℕ
-rendered (lines.Group name id) =
+abbrev pub report_text : ReportLine → List ℕ
+report_text (lines.Group name id) =
     line (codes "group" ∷ name ∷ decimal id.0 ∷ [])
-rendered (lines.View group version members primary) =
+report_text (lines.View group version members primary) =
     line (codes "view" ∷ group ∷ decimal version.0 ∷ codes "members" ∷ hosts_text members ∷ codes "primary" ∷ host_text primary ∷ [])
-rendered (lines.Attempt message client host id) =
+report_text (lines.Attempt message client host id) =
     line (codes "msg" ∷ decimal message ∷ codes "client" ∷ client ∷ codes "to host" ∷ decimal host.0 ∷ codes "request" ∷ decimal id ∷ [])
-rendered (lines.Reply message host client id shown) =
-    line (codes "msg" ∷ decimal message ∷ codes "host" ∷ decimal host.0 ∷ codes "to client" ∷ client ∷ codes "reply" ∷ decimal id ∷ shown_text shown ∷ [])
-rendered (lines.At host group decision) =
+report_text (lines.Reply message host client id shown) =
+    line (codes "msg" ∷ decimal message ∷ codes "host" ∷ decimal host.0 ∷ codes "to client" ∷ client ∷ codes "reply" ∷ decimal id ∷ outcome_text shown ∷ [])
+report_text (lines.At host group decision) =
     line (codes "at" ∷ decimal host.0 ∷ group ∷ decision_text decision ∷ [])
-rendered (lines.UnheardReply message) =
+report_text (lines.UnheardReply message) =
     line (codes "ignored" ∷ decimal message ∷ codes "reply" ∷ [])
-rendered (lines.Done client call shown) =
-    line (codes "done" ∷ client ∷ decimal call ∷ shown_text shown ∷ [])
-rendered (lines.Busy client) =
+report_text (lines.Done client call shown) =
+    line (codes "done" ∷ client ∷ decimal call ∷ outcome_text shown ∷ [])
+report_text (lines.Busy client) =
     line (codes "busy" ∷ client ∷ [])
-rendered (lines.Show group version entries mark time) =
+report_text (lines.Show group version entries mark time) =
     line (codes "show" ∷ group ∷ codes "view" ∷ decimal version.0 ∷ codes "entries" ∷ decimal entries ∷ codes "mark" ∷ decimal mark ∷ codes "time" ∷ decimal time.0 ∷ [])
-rendered (lines.Member host role known position state) =
+report_text (lines.Member host role known position state) =
     line (codes "member" ∷ decimal host.0 ∷ role_text role ∷ codes "known" ∷ decimal known.0 ∷ codes "at" ∷ decimal position ∷ codes "state" ∷ octets_text state ∷ [])
-rendered (lines.NoGroup host) =
+report_text (lines.NoGroup host) =
     line (codes "at" ∷ decimal host.0 ∷ codes "- nogroup" ∷ [])
-rendered (lines.Bytes bytes) =
+report_text (lines.Bytes bytes) =
     line (codes "bytes" ∷ octets_text bytes ∷ [])
-rendered lines.LinkClosed =
+report_text lines.LinkClosed =
     line (codes "link closed" ∷ [])
-rendered (lines.LinkMalformed why place) =
+report_text (lines.LinkMalformed why place) =
     line (codes "link malformed" ∷ why_text why ∷ decimal place ∷ [])
-rendered (lines.LinkTooLarge size) =
+report_text (lines.LinkTooLarge size) =
     line (codes "link too-large" ∷ decimal size ∷ [])

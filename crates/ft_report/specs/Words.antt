@@ -8,21 +8,21 @@ use Rattle.ft_report.specs.declared.words.Word.{Word}
 use Rattle.ft_report.specs.declared.words.Word.TheVariants.{Fixed, Text, Made, Number, Signed, Host}
 
 -- texts, with a byte between each two
-abbrev pub joined : ℕ → List (List ℕ) → List ℕ
-joined separator [] = []
-joined separator (text ∷ texts) = text ++ flat_map (λ next. separator ∷ next) texts
+abbrev pub joined_text : ℕ → List (List ℕ) → List ℕ
+joined_text separator [] = []
+joined_text separator (text ∷ texts) = text ++ flat_map (λ next. separator ∷ next) texts
 
 -- words, with a space between each two
-abbrev pub spaced : List (List ℕ) → List ℕ
-spaced words = joined 32 words
+abbrev pub phrase_text : List (List ℕ) → List ℕ
+phrase_text words = joined_text 32 words
 
 -- a line of these words, with its LF
 abbrev pub line : List (List ℕ) → List ℕ
-line words = spaced words ++ 10 ∷ []
+line words = phrase_text words ++ 10 ∷ []
 
 -- host numbers, with a comma between each two; `-` for none
 abbrev pub hosts_text : List ℕ → List ℕ
-hosts_text hosts = if length hosts == 0 then codes "-" else joined 44 (map decimal hosts)
+hosts_text hosts = if length hosts == 0 then codes "-" else joined_text 44 (map decimal hosts)
 
 -- octets in hexadecimal; `-` for none
 abbrev pub octets_text : List ℕ → List ℕ

@@ -6,7 +6,7 @@ mod rendering;
 mod reports;
 mod words;
 
-pub use outcomes::{Shown, Worth, worth_of};
+pub use outcomes::{ReportOutcome, Worth, worth_of};
 pub use rendering::{render, render_all};
 pub use reports::{ReportLine, ReportLines, Role};
 

@@ -9,7 +9,7 @@ use std::alloc::Global;
 use sys_faults::SysFault;
 
 /// A result's value as it is printed.
-#[derive(Drop)]
+#[derive(Debug, Drop)]
 pub enum Worth {
     Void,
     Number(i64),
@@ -19,7 +19,7 @@ pub enum Worth {
 
 /// What a request came to, as it is printed.
 #[derive(Drop)]
-pub enum Shown {
+pub enum ReportOutcome {
     Value(Worth),
     User(Name),
     System(SysFault),
@@ -46,33 +46,33 @@ impl Worth {
     }
 }
 
-impl Shown {
+impl ReportOutcome {
     /// An equal one.
-    pub fn copy(&self, alloc: Global) -> Result<Shown, NoMemory>
+    pub fn copy(&self, alloc: Global) -> Result<ReportOutcome, NoMemory>
         ensures { IfOk result (λ shown. shown ≡ self.now) }
     {
         match self {
-            Shown::Value(worth) => {
+            ReportOutcome::Value(worth) => {
                 let worth = worth.copy(alloc)?;
-                Ok(Shown::Value(worth))
+                Ok(ReportOutcome::Value(worth))
             }
-            Shown::User(name) => {
+            ReportOutcome::User(name) => {
                 let name = name.copy(alloc)?;
-                Ok(Shown::User(name))
+                Ok(ReportOutcome::User(name))
             }
-            Shown::System(fault) => {
+            ReportOutcome::System(fault) => {
                 let fault = fault.copy(alloc)?;
-                Ok(Shown::System(fault))
+                Ok(ReportOutcome::System(fault))
             }
-            Shown::Forward { group, version } => {
+            ReportOutcome::Forward { group, version } => {
                 let version = *version;
                 let group = group.copy(alloc)?;
-                Ok(Shown::Forward { group, version })
+                Ok(ReportOutcome::Forward { group, version })
             }
-            Shown::ForwardPerm { group, version } => {
+            ReportOutcome::ForwardPerm { group, version } => {
                 let version = *version;
                 let group = group.copy(alloc)?;
-                Ok(Shown::ForwardPerm { group, version })
+                Ok(ReportOutcome::ForwardPerm { group, version })
             }
         }
     }

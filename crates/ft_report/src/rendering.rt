@@ -1,9 +1,9 @@
 ghost use Rattle.std.specs.Prelude.{◌≡◌, ◌∷◌, [], decimal, IfOk};
 ghost use Rattle.std.specs.List.{flat_map};
-ghost use Rattle.ft_report.specs.Words.{spaced};
-ghost use Rattle.ft_report.specs.Report.{completed_text, decision_text, flag_text, kind_text, rendered, role_text, shown_text, why_text, with_number, with_numbers, worth_text};
+ghost use Rattle.ft_report.specs.Words.{phrase_text};
+ghost use Rattle.ft_report.specs.Report.{completed_text, decision_text, flag_text, kind_text, report_text, role_text, outcome_text, why_text, with_number, with_numbers, worth_text};
 
-use crate::outcomes::{Shown, Worth};
+use crate::outcomes::{ReportOutcome, Worth};
 use crate::reports::{ReportLine, ReportLines, Role};
 use crate::words::Word::{Fixed, Host, Made, Number, Signed, Text};
 use crate::words::{hosts, octets, phrase, whole_line};
@@ -87,7 +87,7 @@ fn forward_bytes(
     group: &Name,
     version: Version,
 ) -> Result<Bytes, NoMemory>
-    ensures { IfOk result (λ bytes. bytes ≡ spaced (word.now ∷ group.now ∷ decimal version.0 ∷ [])) }
+    ensures { IfOk result (λ bytes. bytes ≡ phrase_text (word.now ∷ group.now ∷ decimal version.0 ∷ [])) }
 {
     phrase(
         alloc,
@@ -99,16 +99,16 @@ fn forward_bytes(
     )
 }
 
-fn shown_bytes(alloc: Global, shown: &Shown) -> Result<Bytes, NoMemory>
-    ensures { IfOk result (λ bytes. bytes ≡ shown_text shown.now) }
+fn outcome_bytes(alloc: Global, shown: &ReportOutcome) -> Result<Bytes, NoMemory>
+    ensures { IfOk result (λ bytes. bytes ≡ outcome_text shown.now) }
 {
     match shown {
-        Shown::Value(worth) => {
+        ReportOutcome::Value(worth) => {
             let worth = worth_bytes(alloc, worth)?;
             phrase(alloc, &[Fixed(b"value"), Made(worth.bytes())])
         }
-        Shown::User(name) => phrase(alloc, &[Fixed(b"user"), Text(name.bytes())]),
-        Shown::System(fault) => {
+        ReportOutcome::User(name) => phrase(alloc, &[Fixed(b"user"), Text(name.bytes())]),
+        ReportOutcome::System(fault) => {
             let kind = kind_bytes(alloc, &fault.kind)?;
             phrase(
                 alloc,
@@ -120,8 +120,10 @@ fn shown_bytes(alloc: Global, shown: &Shown) -> Result<Bytes, NoMemory>
                 ],
             )
         }
-        Shown::Forward { group, version } => forward_bytes(alloc, b"forward", group, *version),
-        Shown::ForwardPerm { group, version } => {
+        ReportOutcome::Forward { group, version } => forward_bytes(
+            alloc, b"forward", group, *version,
+        ),
+        ReportOutcome::ForwardPerm { group, version } => {
             forward_bytes(alloc, b"forward-perm", group, *version)
         }
     }
@@ -189,7 +191,7 @@ fn view_line(
     members: &Members,
     primary: Option<HostNo>,
 ) -> Result<Bytes, NoMemory>
-    ensures { IfOk result (λ bytes. bytes ≡ rendered (ReportLine.View group.now version members.now primary)) }
+    ensures { IfOk result (λ bytes. bytes ≡ report_text (ReportLine.View group.now version members.now primary)) }
 {
     let members = hosts(alloc, members)?;
     whole_line(
@@ -213,7 +215,7 @@ fn attempt_line(
     host: HostNo,
     id: u32,
 ) -> Result<Bytes, NoMemory>
-    ensures { IfOk result (λ bytes. bytes ≡ rendered (ReportLine.Attempt message client.now host id)) }
+    ensures { IfOk result (λ bytes. bytes ≡ report_text (ReportLine.Attempt message client.now host id)) }
 {
     whole_line(
         alloc,
@@ -236,11 +238,11 @@ fn reply_line(
     host: HostNo,
     client: &Name,
     id: u32,
-    shown: &Shown,
+    shown: &ReportOutcome,
 ) -> Result<Bytes, NoMemory>
-    ensures { IfOk result (λ bytes. bytes ≡ rendered (ReportLine.Reply message host client.now id shown.now)) }
+    ensures { IfOk result (λ bytes. bytes ≡ report_text (ReportLine.Reply message host client.now id shown.now)) }
 {
-    let shown = shown_bytes(alloc, shown)?;
+    let shown = outcome_bytes(alloc, shown)?;
     whole_line(
         alloc,
         &[
@@ -258,7 +260,7 @@ fn reply_line(
 }
 
 fn at_line(alloc: Global, host: HostNo, group: &Name, decision: Decision) -> Result<Bytes, NoMemory>
-    ensures { IfOk result (λ bytes. bytes ≡ rendered (ReportLine.At host group.now decision)) }
+    ensures { IfOk result (λ bytes. bytes ≡ report_text (ReportLine.At host group.now decision)) }
 {
     let decision = decision_bytes(alloc, decision)?;
     whole_line(
@@ -272,10 +274,15 @@ fn at_line(alloc: Global, host: HostNo, group: &Name, decision: Decision) -> Res
     )
 }
 
-fn done_line(alloc: Global, client: &Name, call: u32, shown: &Shown) -> Result<Bytes, NoMemory>
-    ensures { IfOk result (λ bytes. bytes ≡ rendered (ReportLine.Done client.now call shown.now)) }
+fn done_line(
+    alloc: Global,
+    client: &Name,
+    call: u32,
+    shown: &ReportOutcome,
+) -> Result<Bytes, NoMemory>
+    ensures { IfOk result (λ bytes. bytes ≡ report_text (ReportLine.Done client.now call shown.now)) }
 {
-    let shown = shown_bytes(alloc, shown)?;
+    let shown = outcome_bytes(alloc, shown)?;
     whole_line(
         alloc,
         &[
@@ -295,7 +302,7 @@ fn show_line(
     mark: u32,
     time: Tick,
 ) -> Result<Bytes, NoMemory>
-    ensures { IfOk result (λ bytes. bytes ≡ rendered (ReportLine.Show group.now version entries mark time)) }
+    ensures { IfOk result (λ bytes. bytes ≡ report_text (ReportLine.Show group.now version entries mark time)) }
 {
     whole_line(
         alloc,
@@ -322,7 +329,7 @@ fn member_line(
     position: u32,
     state: &Bytes,
 ) -> Result<Bytes, NoMemory>
-    ensures { IfOk result (λ bytes. bytes ≡ rendered (ReportLine.Member host role known position state.now)) }
+    ensures { IfOk result (λ bytes. bytes ≡ report_text (ReportLine.Member host role known position state.now)) }
 {
     let state = octets(alloc, state)?;
     let bytes = whole_line(
@@ -343,7 +350,7 @@ fn member_line(
 }
 
 fn no_group_line(alloc: Global, host: HostNo) -> Result<Bytes, NoMemory>
-    ensures { IfOk result (λ bytes. bytes ≡ rendered (ReportLine.NoGroup host)) }
+    ensures { IfOk result (λ bytes. bytes ≡ report_text (ReportLine.NoGroup host)) }
 {
     whole_line(
         alloc,
@@ -352,14 +359,14 @@ fn no_group_line(alloc: Global, host: HostNo) -> Result<Bytes, NoMemory>
 }
 
 fn bytes_line(alloc: Global, written: &Bytes) -> Result<Bytes, NoMemory>
-    ensures { IfOk result (λ bytes. bytes ≡ rendered (ReportLine.Bytes written.now)) }
+    ensures { IfOk result (λ bytes. bytes ≡ report_text (ReportLine.Bytes written.now)) }
 {
     let written = octets(alloc, written)?;
     whole_line(alloc, &[Fixed(b"bytes"), Made(written.bytes())])
 }
 
 fn malformed_line(alloc: Global, why: Why, place: u32) -> Result<Bytes, NoMemory>
-    ensures { IfOk result (λ bytes. bytes ≡ rendered (ReportLine.LinkMalformed why place)) }
+    ensures { IfOk result (λ bytes. bytes ≡ report_text (ReportLine.LinkMalformed why place)) }
 {
     whole_line(
         alloc,
@@ -373,7 +380,7 @@ fn malformed_line(alloc: Global, why: Why, place: u32) -> Result<Bytes, NoMemory
 
 /// A line's bytes, with its LF.
 pub fn render(alloc: Global, line: &ReportLine) -> Result<Bytes, NoMemory>
-    ensures { IfOk result (λ bytes. bytes ≡ rendered line.now) }
+    ensures { IfOk result (λ bytes. bytes ≡ report_text line.now) }
 {
     match line {
         ReportLine::Group { name, id } => {
@@ -441,7 +448,7 @@ pub fn render(alloc: Global, line: &ReportLine) -> Result<Bytes, NoMemory>
 
 /// The bytes of all lines, in order.
 pub fn render_all(alloc: Global, lines: &ReportLines) -> Result<Bytes, NoMemory>
-    ensures { IfOk result (λ bytes. bytes ≡ flat_map rendered lines.now) }
+    ensures { IfOk result (λ bytes. bytes ≡ flat_map report_text lines.now) }
 {
     let mut text = Vec::new(alloc);
     for line in lines.as_slice() {

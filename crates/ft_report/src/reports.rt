@@ -1,7 +1,7 @@
 ghost use Rattle.std.specs.Prelude.{◌≡◌, [], ◌∷◌, ◌++◌, List, length, OnOk, OnErr};
 ghost use Rattle.ft_report.specs.declared.reports.ReportLine.{ReportLine};
 
-use crate::outcomes::Shown;
+use crate::outcomes::ReportOutcome;
 use ft_base::{Bytes, Decision, GroupId, HostNo, Members, Name, NoMemory, Tick, Version};
 use giop_messages::Why;
 use std::alloc::Global;
@@ -42,7 +42,7 @@ pub enum ReportLine {
         host: HostNo,
         client: Name,
         id: u32,
-        shown: Shown,
+        shown: ReportOutcome,
     },
     /// What a host made of a request.
     At {
@@ -58,7 +58,7 @@ pub enum ReportLine {
     Done {
         client: Name,
         call: u32,
-        shown: Shown,
+        shown: ReportOutcome,
     },
     /// A client was asked to begin an invocation while another was open.
     Busy {

@@ -2,7 +2,7 @@ ghost use Rattle.std.specs.Prelude.{◌<◌, ◌^◌, ◌∷◌, [], length, IfO
 ghost use Rattle.ft_base.specs.Canonical.{IsCanonical};
 ghost use Rattle.ft_base.specs.declared.requests.Par.TheVariants as pars;
 
-use crate::outcomes::{Shown, Worth, worth_of};
+use crate::outcomes::{ReportOutcome, Worth, worth_of};
 use crate::rendering::{render, render_all};
 use crate::reports::{ReportLine, ReportLines, Role};
 use ft_base::{Bytes, Decision, GroupId, HostNo, Members, Name, NoMemory, Par, Tick, Version};
@@ -23,8 +23,8 @@ fn name(alloc: Global, text: &[u8]) -> Result<Name, NoMemory>
     }
 }
 
-fn system(kind: SysKind, minor: u32, completed: Completed) -> Shown {
-    Shown::System(SysFault {
+fn system(kind: SysKind, minor: u32, completed: Completed) -> ReportOutcome {
+    ReportOutcome::System(SysFault {
         kind,
         minor,
         completed,
@@ -48,7 +48,7 @@ fn reply(
     message: u64,
     client: &[u8],
     id: u32,
-    shown: Shown,
+    shown: ReportOutcome,
 ) -> Result<ReportLine, NoMemory>
     requires { length client.now < 2 ^ 32 }
 {
@@ -71,7 +71,7 @@ fn at(alloc: Global, decision: Decision) -> Result<ReportLine, NoMemory> {
     })
 }
 
-fn done(alloc: Global, call: u32, shown: Shown) -> Result<ReportLine, NoMemory> {
+fn done(alloc: Global, call: u32, shown: ReportOutcome) -> Result<ReportLine, NoMemory> {
     let client = name(alloc, b"ann")?;
     Ok(ReportLine::Done {
         client,
@@ -89,7 +89,7 @@ fn view(
     let group = name(alloc, b"bank")?;
     let mut members = Members::new();
     for host in hosts {
-        if members.len() < 16 {
+        if members.len() < 16 && !members.has(*host) {
             members.join(*host);
         }
     }
@@ -117,8 +117,8 @@ fn made(alloc: Global, lines: &mut ReportLines) -> Result<(), NoMemory> {
 fn one_call(alloc: Global, lines: &mut ReportLines) -> Result<(), NoMemory> {
     lines.push(attempt(alloc, 1, b"ann", 1)?)?;
     lines.push(at(alloc, Decision::Append(0))?)?;
-    lines.push(reply(alloc, 2, b"ann", 1, Shown::Value(Worth::Number(5)))?)?;
-    lines.push(done(alloc, 1, Shown::Value(Worth::Number(5)))?)?;
+    lines.push(reply(alloc, 2, b"ann", 1, ReportOutcome::Value(Worth::Number(5)))?)?;
+    lines.push(done(alloc, 1, ReportOutcome::Value(Worth::Number(5)))?)?;
     let group = name(alloc, b"bank")?;
     lines.push(ReportLine::Show {
         group,
@@ -204,14 +204,14 @@ fn each_decision(alloc: Global, lines: &mut ReportLines) -> Result<(), NoMemory>
 
 fn outcomes(alloc: Global, lines: &mut ReportLines) -> Result<(), NoMemory> {
     let exception = name(alloc, b"BadAmount")?;
-    lines.push(done(alloc, 3, Shown::User(exception))?)?;
-    lines.push(done(alloc, 4, Shown::Value(Worth::Void))?)?;
-    lines.push(done(alloc, 5, Shown::Value(Worth::Flag(true)))?)?;
-    lines.push(done(alloc, 6, Shown::Value(Worth::Number(i64::MIN)))?)?;
+    lines.push(done(alloc, 3, ReportOutcome::User(exception))?)?;
+    lines.push(done(alloc, 4, ReportOutcome::Value(Worth::Void))?)?;
+    lines.push(done(alloc, 5, ReportOutcome::Value(Worth::Flag(true)))?)?;
+    lines.push(done(alloc, 6, ReportOutcome::Value(Worth::Number(i64::MIN)))?)?;
     let octets = Bytes::of(alloc, b"\x00\xffAz")?;
-    lines.push(done(alloc, 7, Shown::Value(Worth::Octets(octets)))?)?;
+    lines.push(done(alloc, 7, ReportOutcome::Value(Worth::Octets(octets)))?)?;
     let none = Bytes::of(alloc, b"")?;
-    lines.push(done(alloc, 8, Shown::Value(Worth::Octets(none)))?)?;
+    lines.push(done(alloc, 8, ReportOutcome::Value(Worth::Octets(none)))?)?;
     lines.push(done(alloc, 9, system(SysKind::NoResponse, 1, Completed::Maybe))?)?;
     let id = Bytes::of(alloc, b"IDL:x")?;
     lines.push(done(alloc, 10, system(SysKind::Unknown(id), 7, Completed::Yes))?)?;
@@ -221,10 +221,10 @@ fn outcomes(alloc: Global, lines: &mut ReportLines) -> Result<(), NoMemory> {
 fn forwards(alloc: Global, lines: &mut ReportLines) -> Result<(), NoMemory> {
     let group = name(alloc, b"bank")?;
     let version = Version(2);
-    lines.push(done(alloc, 11, Shown::Forward { group, version })?)?;
+    lines.push(done(alloc, 11, ReportOutcome::Forward { group, version })?)?;
     let group = name(alloc, b"bank")?;
     let version = Version(u32::MAX);
-    let perm = Shown::ForwardPerm { group, version };
+    let perm = ReportOutcome::ForwardPerm { group, version };
     lines.push(reply(alloc, 6, b"ann", 3, perm.copy(alloc)?)?)?;
     Ok(())
 }
@@ -352,6 +352,256 @@ fn each_line(rt: HostRuntime) -> Result<(), NoMemory> {
     Ok(())
 }
 
+// Each exception that has a name, in a line.
+const KINDS: [(SysKind, &str); 13] = [
+    (
+        SysKind::ObjectNotExist,
+        "done ann 1 system OBJECT_NOT_EXIST 1 no\n",
+    ),
+    (SysKind::BadContext, "done ann 1 system BAD_CONTEXT 1 no\n"),
+    (SysKind::InvObjref, "done ann 1 system INV_OBJREF 1 no\n"),
+    (SysKind::Transient, "done ann 1 system TRANSIENT 1 no\n"),
+    (
+        SysKind::BadOperation,
+        "done ann 1 system BAD_OPERATION 1 no\n",
+    ),
+    (SysKind::Marshal, "done ann 1 system MARSHAL 1 no\n"),
+    (SysKind::ImpLimit, "done ann 1 system IMP_LIMIT 1 no\n"),
+    (
+        SysKind::NoResources,
+        "done ann 1 system NO_RESOURCES 1 no\n",
+    ),
+    (
+        SysKind::PersistStore,
+        "done ann 1 system PERSIST_STORE 1 no\n",
+    ),
+    (
+        SysKind::CommFailure,
+        "done ann 1 system COMM_FAILURE 1 no\n",
+    ),
+    (SysKind::NoResponse, "done ann 1 system NO_RESPONSE 1 no\n"),
+    (SysKind::ObjAdapter, "done ann 1 system OBJ_ADAPTER 1 no\n"),
+    (SysKind::NoMemory, "done ann 1 system NO_MEMORY 1 no\n"),
+];
+
+#[test]
+fn each_exception(rt: HostRuntime) -> Result<(), NoMemory> {
+    let alloc = rt.alloc();
+    for (kind, want) in &KINDS {
+        let outcome = system(kind.copy(alloc)?, 1, Completed::No);
+        let line = done(alloc, 1, outcome.copy(alloc)?)?;
+        let bytes = render(alloc, &line)?;
+        assert!(rt; bytes.bytes() == want.as_bytes(), "{want}");
+    }
+    Ok(())
+}
+
+// A part that stands in a text so many times.
+fn repeated(alloc: Global, part: &str, count: usize) -> Result<Vec<u8>, NoMemory> {
+    let mut text = Vec::new(alloc);
+    for _ in 0..count {
+        text.extend_from_slice(part.as_bytes())?;
+    }
+    Ok(text)
+}
+
+// The longest name.
+fn long_name(alloc: Global) -> Result<Name, NoMemory> {
+    match Name::of(alloc, &[b'n'; 255]) {
+        Ok(name) => Ok(name),
+        Err(_) => Err(NoMemory),
+    }
+}
+
+const LAST: HostNo = HostNo(255);
+
+const NEWEST: Version = Version(u32::MAX);
+
+const LATEST: Tick = Tick(u64::MAX);
+
+// Lines with a long name, and with the greatest numbers.
+fn long_made(alloc: Global, lines: &mut ReportLines) -> Result<(), NoMemory> {
+    let name = long_name(alloc)?;
+    lines.push(ReportLine::Group {
+        name,
+        id: GroupId(u64::MAX),
+    })?;
+    let client = long_name(alloc)?;
+    lines.push(ReportLine::Attempt {
+        message: u64::MAX,
+        client,
+        host: LAST,
+        id: u32::MAX,
+    })
+}
+
+fn long_reply(alloc: Global, lines: &mut ReportLines) -> Result<(), NoMemory> {
+    let client = long_name(alloc)?;
+    lines.push(ReportLine::Reply {
+        message: u64::MAX,
+        host: LAST,
+        client,
+        id: u32::MAX,
+        shown: system(SysKind::BadContext, u32::MAX, Completed::Maybe),
+    })
+}
+
+fn long_outcomes(alloc: Global, lines: &mut ReportLines) -> Result<(), NoMemory> {
+    let exception = ReportOutcome::User(long_name(alloc)?);
+    lines.push(done(alloc, u32::MAX, exception.copy(alloc)?)?)?;
+    let group = long_name(alloc)?;
+    let forward = ReportOutcome::Forward {
+        group,
+        version: NEWEST,
+    };
+    lines.push(done(alloc, u32::MAX, forward.copy(alloc)?)?)
+}
+
+fn long_decision(alloc: Global, lines: &mut ReportLines) -> Result<(), NoMemory> {
+    let group = long_name(alloc)?;
+    lines.push(ReportLine::At {
+        host: LAST,
+        group,
+        decision: Decision::Expired {
+            expiration: LATEST,
+            now: LATEST,
+        },
+    })?;
+    let client = long_name(alloc)?;
+    lines.push(ReportLine::Busy { client })
+}
+
+fn long_show(alloc: Global, lines: &mut ReportLines) -> Result<(), NoMemory> {
+    let group = long_name(alloc)?;
+    lines.push(ReportLine::Show {
+        group,
+        version: NEWEST,
+        entries: u32::MAX,
+        mark: u32::MAX,
+        time: LATEST,
+    })
+}
+
+const HOSTS: [HostNo; 16] = [
+    HostNo(63),
+    HostNo(62),
+    HostNo(61),
+    HostNo(60),
+    HostNo(59),
+    HostNo(58),
+    HostNo(57),
+    HostNo(56),
+    HostNo(55),
+    HostNo(54),
+    HostNo(53),
+    HostNo(52),
+    HostNo(51),
+    HostNo(50),
+    HostNo(49),
+    HostNo(0),
+];
+
+// Lines with many octets, and a view with as many members as there can be.
+fn long_bytes(alloc: Global, lines: &mut ReportLines) -> Result<(), NoMemory> {
+    let octets = Bytes::from_vec(repeated(alloc, "\u{7f}", 4_096)?);
+    lines.push(ReportLine::Bytes(octets))?;
+    let octets = Bytes::from_vec(repeated(alloc, "\u{7f}", 4_096)?);
+    let value = ReportOutcome::Value(Worth::Octets(octets));
+    lines.push(done(alloc, 1, value.copy(alloc)?)?)
+}
+
+fn long_state(alloc: Global, lines: &mut ReportLines) -> Result<(), NoMemory> {
+    let state = Bytes::from_vec(repeated(alloc, "\u{7f}", 4_096)?);
+    lines.push(ReportLine::Member {
+        host: LAST,
+        role: Role::Backup,
+        known: NEWEST,
+        position: u32::MAX,
+        state,
+    })?;
+    lines.push(view(alloc, u32::MAX, &HOSTS, None)?)
+}
+
+// These lines: what stands before a part, the part and how many times it stands there, and what follows.
+const LONG: [(&str, &str, usize, &str); 12] = [
+    ("group ", "n", 255, " 18446744073709551615\n"),
+    (
+        "msg 18446744073709551615 client ",
+        "n",
+        255,
+        " to host 255 request 4294967295\n",
+    ),
+    (
+        "msg 18446744073709551615 host 255 to client ",
+        "n",
+        255,
+        " reply 4294967295 system BAD_CONTEXT 4294967295 maybe\n",
+    ),
+    ("done ann 4294967295 user ", "n", 255, "\n"),
+    ("done ann 4294967295 forward ", "n", 255, " 4294967295\n"),
+    (
+        "at 255 ",
+        "n",
+        255,
+        " expired 18446744073709551615 18446744073709551615\n",
+    ),
+    ("busy ", "n", 255, "\n"),
+    (
+        "show ",
+        "n",
+        255,
+        " view 4294967295 entries 4294967295 mark 4294967295 time 18446744073709551615\n",
+    ),
+    ("bytes ", "7f", 4_096, "\n"),
+    ("done ann 1 value ", "7f", 4_096, "\n"),
+    (
+        "member 255 backup known 4294967295 at 4294967295 state ",
+        "7f",
+        4_096,
+        "\n",
+    ),
+    (
+        "view bank 4294967295 members 63,62,61,60,59,58,57,56,55,54,53,52,51,50,49,",
+        "0",
+        1,
+        " primary -\n",
+    ),
+];
+
+fn long_line(
+    alloc: Global,
+    before: &str,
+    part: &str,
+    count: usize,
+    after: &str,
+) -> Result<Vec<u8>, NoMemory> {
+    let mut line = Vec::from_slice(alloc, before.as_bytes())?;
+    let middle = repeated(alloc, part, count)?;
+    line.extend_from_slice(middle.as_slice())?;
+    line.extend_from_slice(after.as_bytes())?;
+    Ok(line)
+}
+
+#[test]
+fn long_lines(rt: HostRuntime) -> Result<(), NoMemory> {
+    let alloc = rt.alloc();
+    let mut lines = ReportLines::new(alloc);
+    long_made(alloc, &mut lines)?;
+    long_reply(alloc, &mut lines)?;
+    long_outcomes(alloc, &mut lines)?;
+    long_decision(alloc, &mut lines)?;
+    long_show(alloc, &mut lines)?;
+    long_bytes(alloc, &mut lines)?;
+    long_state(alloc, &mut lines)?;
+    assert_eq!(rt; lines.len(), LONG.len());
+    for (line, (before, part, count, after)) in lines.as_slice().iter().zip(&LONG) {
+        let bytes = render(alloc, line)?;
+        let want = long_line(alloc, *before, *part, *count, *after)?;
+        assert!(rt; bytes.bytes() == want.as_slice(), "{before}");
+    }
+    Ok(())
+}
+
 fn canonical_text(alloc: Global) -> Result<Bytes, NoMemory>
     ensures { IfOk result (λ bytes. IsCanonical (pars.Text ∷ []) bytes) }
 {
@@ -366,17 +616,37 @@ fn canonical_octets(alloc: Global) -> Result<Bytes, NoMemory>
     Ok(bytes)
 }
 
+fn canonical_number(alloc: Global) -> Result<Bytes, NoMemory>
+    ensures { IfOk result (λ bytes. IsCanonical (pars.U32 ∷ []) bytes) }
+{
+    let bytes = Bytes::of(alloc, b"\xff\xff\xff\xff")?;
+    Ok(bytes)
+}
+
+fn canonical_flag(alloc: Global) -> Result<Bytes, NoMemory>
+    ensures { IfOk result (λ bytes. IsCanonical (pars.Bool ∷ []) bytes) }
+{
+    let bytes = Bytes::of(alloc, b"\x01")?;
+    Ok(bytes)
+}
+
 #[test]
-fn text_and_octets(rt: HostRuntime) -> Result<(), NoMemory> {
+fn values_of_each_type(rt: HostRuntime) -> Result<(), NoMemory> {
     let alloc = rt.alloc();
+    let number = canonical_number(alloc)?;
+    let number = worth_of(alloc, Some(Par::U32), &number)?.copy(alloc)?;
+    assert!(rt; matches!(&number, Worth::Number(4_294_967_295)));
+    let flag = canonical_flag(alloc)?;
+    let flag = worth_of(alloc, Some(Par::Bool), &flag)?.copy(alloc)?;
+    assert!(rt; matches!(&flag, Worth::Flag(true)));
     let text = canonical_text(alloc)?;
     let text = worth_of(alloc, Some(Par::Text), &text)?;
     assert!(rt; matches!(&text, Worth::Octets(octets) if octets.bytes() == b"ok".as_slice()));
     let octets = canonical_octets(alloc)?;
     let octets = worth_of(alloc, Some(Par::Octets), &octets)?;
-    let copied = Shown::Value(octets).copy(alloc)?;
+    let copied = ReportOutcome::Value(octets).copy(alloc)?;
     assert!(rt;
-        matches!(&copied, Shown::Value(Worth::Octets(octets)) if octets.bytes() == b"ok\x00".as_slice())
+        matches!(&copied, ReportOutcome::Value(Worth::Octets(octets)) if octets.bytes() == b"ok\x00".as_slice())
     );
     Ok(())
 }

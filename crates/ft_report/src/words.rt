@@ -1,6 +1,6 @@
 ghost use Rattle.std.specs.Prelude.{◌≡◌, ◌++◌, ◌∷◌, [], ℕ, map, decimal, IfOk, OnOk};
 ghost use Rattle.std.specs.List.{flat_map};
-ghost use Rattle.ft_report.specs.Words.{hosts_text, joined, line, octets_text, spaced, word_text};
+ghost use Rattle.ft_report.specs.Words.{hosts_text, joined_text, line, octets_text, phrase_text, word_text};
 
 use ft_base::{Bytes, HostNo, Members, NoMemory};
 use itoa::Buffer;
@@ -49,7 +49,7 @@ fn push_each(text: &mut Vec<u8>, separator: u8, words: &[Word]) -> Result<(), No
 }
 
 fn join(alloc: Global, separator: u8, words: &[Word]) -> Result<Vec<u8>, NoMemory>
-    ensures { IfOk result (λ text. text.items ≡ joined separator (map word_text words.now)) }
+    ensures { IfOk result (λ text. text.items ≡ joined_text separator (map word_text words.now)) }
 {
     let mut text = Vec::new(alloc);
     match words.split_first() {
@@ -64,7 +64,7 @@ fn join(alloc: Global, separator: u8, words: &[Word]) -> Result<Vec<u8>, NoMemor
 
 /// The words, with a space between each two.
 pub fn phrase(alloc: Global, words: &[Word]) -> Result<Bytes, NoMemory>
-    ensures { IfOk result (λ bytes. bytes ≡ spaced (map word_text words.now)) }
+    ensures { IfOk result (λ bytes. bytes ≡ phrase_text (map word_text words.now)) }
 {
     let text = join(alloc, b' ', words)?;
     Ok(Bytes::from_vec(text))

@@ -4,7 +4,7 @@ use Rattle.std.specs.Prelude.{slice_get, slice_index, slice_set}
 use Rattle.ft_base.specs.declared.decisions.Decision.{Decision}
 use Rattle.ft_base.specs.declared.requests.Signature.{Signature}
 use Rattle.fault_script.specs.declared.lines.LineFault.{LineFault}
-use Rattle.ft_report.specs.declared.outcomes.Shown.{Shown}
+use Rattle.ft_report.specs.declared.outcomes.ReportOutcome.{ReportOutcome}
 use Rattle.ft_report.specs.declared.reports.ReportLine.{ReportLine}
 use Rattle.ft_report.specs.declared.reports.ReportLine.TheVariants as reports
 use Rattle.group_core.specs.Servant.{machine}
@@ -21,7 +21,7 @@ use Rattle.ft_world.specs.declared.messages.Message.TheVariants as messages
 use Rattle.ft_world.proofs.TurnLemmas.{calls_of-unless, did_after}
 
 -- the turn that the parts make
-made : Attempt → World → Decision → List ℕ → List ℕ → Shown → ℕ → Turn
+made : Attempt → World → Decision → List ℕ → List ℕ → ReportOutcome → ℕ → Turn
 made a mid decision group client printed calls =
     judged (record mid { messages = mid.messages ++ messages.Reply (record { client = a.client; host = a.host; id = a.id; shown = printed }) ∷ [] })
     (reports.At a.host group decision ∷ reports.Reply (length mid.messages + 1) a.host client a.id printed ∷ []) calls
@@ -33,7 +33,7 @@ made_is : (w : World) (a : Attempt) (g : Group) (c : Client) (wanted : plain.Ser
 unfolding made
 made_is w a g c wanted = refl
 
-made_calls : (a : Attempt) (mid : World) (d : Decision) (g c : List ℕ) (printed : Shown) (calls : ℕ) →
+made_calls : (a : Attempt) (mid : World) (d : Decision) (g c : List ℕ) (printed : ReportOutcome) (calls : ℕ) →
     calls_of (made a mid d g c printed calls) ≡ calls
 unfolding made
 made_calls a mid d g c printed calls = calls_of-unless _ calls _ _
@@ -78,7 +78,7 @@ arrives_unshown w mid a g c clock before later s here there time is =
 
 -- the reply was sent, or a total refuses it
 pub arrives_did : (w mid new : World) (a : Attempt) (g : Group) (c : Client) (clock before later : ℕ) (s : Served) (signature : Option Signature)
-    (printed : Shown) (group client : List ℕ) (r : Result (List ReportLine) LineFault) → slice_get w.groups a.group ≡ Some g →
+    (printed : ReportOutcome) (group client : List ℕ) (r : Result (List ReportLine) LineFault) → slice_get w.groups a.group ≡ Some g →
     slice_get w.clients a.client ≡ Some c → clock ≡ slice_index w.hosts a.host.0 → IsServedAt a.group clock a.request w s mid before later →
     group ≡ g.name → client ≡ c.name → signature ≡ machine.signature a.request.op → printed ≡ shown group signature s.answer →
     ((calls : ℕ) → AnsweredAfter calls
@@ -105,7 +105,7 @@ arrives_did w mid new a g c clock before later s signature printed group client 
     ∙ ap (λ (d : Decision). made a then d group client printed wanted.calls) decision
     ∙ ap (λ (n : List ℕ). made a then wanted.decision n client printed wanted.calls) gname
     ∙ ap (λ (n : List ℕ). made a then wanted.decision g.name n printed wanted.calls) cname
-    ∙ ap (λ (p : Shown). made a then wanted.decision g.name c.name p wanted.calls) answer
+    ∙ ap (λ (p : ReportOutcome). made a then wanted.decision g.name c.name p wanted.calls) answer
     ∙ made_is w a g c wanted ∙ sym (arrives_as w a g c here there) in
     did_after _ wanted.calls before later r new (arrives_calls w a g c here there)
     (is.is.counted ∙ ap (λ (v : plain.Served). before + v.calls) served)

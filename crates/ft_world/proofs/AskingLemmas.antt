@@ -4,6 +4,7 @@ use Rattle.std.specs.Prelude.{◌==◌, OnOk, is_some, length, nat_lt, not, slic
 use Rattle.ft_base.specs.declared.memory.NoMemory.{NoMemory}
 use Rattle.ft_base.specs.declared.decisions.Decision.{Decision}
 use Rattle.ft_base.specs.declared.decisions.Decision.TheVariants as decisions
+use Rattle.ft_base.specs.declared.limits.TheConstants.{ARGUMENTS_LIMIT}
 use Rattle.ft_base.specs.declared.requests.Key.{Key}
 use Rattle.ft_base.specs.declared.numbers.HostNo.{HostNo}
 use Rattle.ft_base.specs.declared.requests.Outcome.TheVariants as outcomes
@@ -24,17 +25,18 @@ use Rattle.host_server.specs.declared.answers.PortAnswer.{PortAnswer}
 use Rattle.host_server.specs.Replies.{CanReply}
 use Rattle.ft_report.specs.declared.reports.ReportLine.{ReportLine}
 use Rattle.ft_report.specs.declared.reports.ReportLine.TheVariants as reports
-use Rattle.group_core.specs.declared.asking.Asked.{Asked}
+use Rattle.group_model.specs.declared.asking.Asked.{Asked}
 use Rattle.group_core.specs.declared.admissions.Admission.{Admission}
 use Rattle.group_core.specs.declared.admissions.Admission.TheVariants.{Expired, Same, Other, Full, New}
 use Rattle.group_core.specs.declared.groups.Served.{Served}
-use Rattle.group_core.specs.Asked.{IsShortBody, args_read, asked_by, asked_of, asked_version, first_version}
+use Rattle.group_core.specs.Asked.{IsShortBody, asked_by, asked_of, asked_version, first_version}
+use Rattle.group_model.specs.Asking.{args_read}
 use Rattle.group_core.specs.Group as plain
-use Rattle.group_core.specs.Group.{Group, IsAnswer, admission, args_for, args_limit, ask, decided, first_row, request_by, request_in, request_named, rows, serve, served_or, short_args, signature_asked, taken_args, unless_refused, with_operation}
+use Rattle.group_core.specs.Group.{Group, IsAnswer, admission, args_for, ask, decided, first_row, request_by, request_in, request_named, rows, serve, served_or, short_args, signature_asked, taken_args, unless_refused, with_operation}
 use Rattle.group_core.specs.Kept.{IsCountedWithin}
 use Rattle.group_core.specs.Servant.{machine}
 use Rattle.ft_world.specs.World.{World, placed}
-use Rattle.ft_world.specs.Links.{LinkTurn, Serves, asked_at, port_answer, reply_lines}
+use Rattle.ft_world.specs.Links.{Linked, serving, asked_at, port_answer, reply_lines}
 use Rattle.ft_world.specs.Serving.{AskFailsAt, HasName, IsAskedAt, Serving}
 use Rattle.ft_world.proofs.PortLemmas.{is_forward}
 use Rattle.ft_world.proofs.ServingLemmas.{serves}
@@ -94,7 +96,7 @@ rows_named g host asked =
     (plain.refusal kinds.BadContext 3) (plain.refusal kinds.InvObjref 1) (answers.ForwardPerm first_version) (plain.refusal kinds.ObjectNotExist 2) tt tt tt tt
 
 short_named : (args : List ℕ) → AreNamedArgs (short_args args)
-short_named args = go (nat_lt args_limit (length args))
+short_named args = go (nat_lt ARGUMENTS_LIMIT (length args))
   where
     go : (b : Bool) → AreNamedArgs (cond b (Err (plain.refused_as (decisions.Long (length args)) (plain.refusal kinds.ImpLimit 1))) (Ok args))
     go true = tt
@@ -162,8 +164,8 @@ pub got : (one other : Group) {o : Option Group} → o ≡ Some one → o ≡ So
 got one other a b = cc
 
 -- the turn that the parts make
-made : HostNo → ℕ → ℕ → Order → World → List ℕ → Decision → PortAnswer → ℕ → LinkTurn
-made host id flags order mid name decision port calls = Serves mid (reports.At host name decision ∷ reply_lines id flags order port) calls
+made : HostNo → ℕ → ℕ → Order → World → List ℕ → Decision → PortAnswer → ℕ → Linked
+made host id flags order mid name decision port calls = serving mid (reports.At host name decision ∷ reply_lines id flags order port) calls
 
 pub asks_did : (w mid : World) (place clock home : ℕ) (host : HostNo) (g : Group) (r : RequestMsg) (order : Order) (asked : Asked) (s : Served)
     (signature : Option Signature) (port : PortAnswer) (name : List ℕ) (result : Result (Unit {0}) NoMemory) (report later_report : List ReportLine) (before later : ℕ) →

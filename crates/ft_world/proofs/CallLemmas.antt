@@ -2,7 +2,7 @@
 use Rattle.std.proofs.Common.{◌≡◌, ℕ, false, List, Option, Some, None, Result, subst, sym, ap, ◌∙◌}
 use Rattle.std.specs.Prelude.{is_some, slice_get}
 use Rattle.fault_script.specs.declared.lines.LineFault.{LineFault}
-use Rattle.fault_script.specs.declared.arguments.Said.{Said}
+use Rattle.fault_script.specs.declared.arguments.CallWords.{CallWords}
 use Rattle.ft_report.specs.declared.reports.ReportLine.{ReportLine}
 use Rattle.group_core.specs.Group.{Group}
 use Rattle.ft_world.specs.World.{Placed, World, call_by, call_from, placed, started}
@@ -10,7 +10,7 @@ use Rattle.ft_world.specs.Sound.{Answered, IsPlace}
 use Rattle.ft_world.specs.declared.clients.Client.{Client}
 
 -- a client without an open call starts one
-pub starts : (w new : World) (named : Option (Placed Client)) (place : ℕ) (client : Client) (g : Placed Group) (op : List ℕ) (said : Said)
+pub starts : (w new : World) (named : Option (Placed Client)) (place : ℕ) (client : Client) (g : Placed Group) (op : List ℕ) (said : CallWords)
     (r : Result (List ReportLine) LineFault) → IsPlace named w.clients (Some place) → slice_get w.clients place ≡ Some client →
     is_some client.waiting ≡ false → Answered (started w (placed place client) g op said) r new →
     Answered (call_from w named g op said) r new

@@ -9,16 +9,16 @@ use Rattle.ft_world.specs.World.{Turn, World, calls_of, cause, first_cause, is_t
 use Rattle.ft_world.specs.Links.{Linked, end_lines, inject_line, link_of, linked_turn}
 use Rattle.ft_world.specs.Serving.{IsEnded, IsLinked}
 use Rattle.ft_world.specs.Sound.{AnsweredAfter, Did}
-use Rattle.ft_world.specs.declared.links.LinkEnd.{LinkEnd}
+use Rattle.giop_stream.specs.declared.sessions.StreamEnd.{StreamEnd}
 use Rattle.ft_world.proofs.TurnLemmas.{calls_of-unless, did_after}
 
 -- the lines of the end were printed
-pub linked : (l : Linked) (end : LinkEnd) (new : World) (report later_report : List ReportLine) (before later : ℕ) → IsEnded l end new report before later →
+pub linked : (l : Linked) (end : StreamEnd) (new : World) (report later_report : List ReportLine) (before later : ℕ) → IsEnded l end new report before later →
     later_report ≡ report ++ end_lines end → IsLinked l new later_report before later
 linked l end new report later_report before later e printed = record { world = e.world; lines = e.lines ∙ sym printed; counted = e.counted }
 
 -- or there was no memory for them
-pub ended_within : (l : Linked) (end : LinkEnd) (new : World) (report : List ReportLine) (before later : ℕ) → IsEnded l end new report before later →
+pub ended_within : (l : Linked) (end : StreamEnd) (new : World) (report : List ReportLine) (before later : ℕ) → IsEnded l end new report before later →
     IsCountedWithin l.calls before later
 ended_within l end new report before later e = record { rises = omega (arith, e.counted); within = omega (arith, e.counted) }
 

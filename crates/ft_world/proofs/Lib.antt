@@ -5,7 +5,6 @@ pub mod TurnLemmas
 pub mod ArriveLemmas
 pub mod OnceLemmas
 pub mod ServingLemmas
-pub mod ShortLemmas
 pub mod SessionLemmas
 pub mod PortLemmas
 pub mod AskingLemmas

@@ -2,7 +2,7 @@
 use Rattle.std.proofs.Common.{◌≡◌, ℕ, zero, suc, ◌++◌, Bool, true, false, cond, List, [], ◌∷◌, Option, Some, None, Result, Ok, Err, refl, subst}
 use Rattle.std.specs.Prelude.{◌-◌, ◌==◌, option_map, slice_get, slice_index, slice_set}
 use Rattle.ft_base.specs.Journal.{AtMostOnce}
-use Rattle.fault_script.specs.declared.arguments.Said.{Said}
+use Rattle.fault_script.specs.declared.arguments.CallWords.{CallWords}
 use Rattle.fault_script.specs.declared.lines.Line.{Line}
 use Rattle.fault_script.specs.declared.lines.Line.TheVariants as lines
 use Rattle.fault_script.specs.declared.lines.LineFault.{LineFault}
@@ -15,19 +15,26 @@ use Rattle.giop_messages.specs.declared.messages.Message as giop
 use Rattle.giop_messages.specs.declared.messages.Message.TheVariants as sent
 use Rattle.giop_messages.specs.declared.messages.RequestMsg.{RequestMsg}
 use Rattle.giop_stream.specs.Parts.{Received}
-use Rattle.giop_stream.specs.Streams.{stream}
-use Rattle.group_core.specs.declared.asking.Asked.{Asked}
+use Rattle.group_model.specs.declared.asking.Asked.{Asked}
 use Rattle.group_core.specs.Asked.{asked_of}
 use Rattle.ft_world.specs.Acts.{act}
-use Rattle.ft_world.specs.Links.{LinkTurn, Linked, Ends, Serves, continued, group_by, group_keyed, inject_causes, link_end, link_of, linked_turn, message_turn, number_in, request_turn, session}
-use Rattle.ft_world.specs.declared.links.LinkEnd.{LinkEnd}
-use Rattle.group_core.proofs.OnceLemmas.{ask_once, once_none, serve_once}
+use Rattle.ft_base.specs.declared.numbers.GroupId.{GroupId}
+use Rattle.iogr_reference.specs.Choices.{group_of_key}
+use Rattle.giop_stream.specs.Sessions.{session}
+use Rattle.ft_world.specs.Links.{Linked, group_by, group_keyed, inject_causes, link_of, linked_turn, message_turn, request_turn, served_all}
+use Rattle.group_core.specs.Once.{OpensOnce, ServesOnce, AsksOnce}
 use Rattle.ft_world.specs.Once.{EachOnce, or_stay, world_after}
 use Rattle.ft_world.specs.declared.clients.Client.{Client}
 use Rattle.ft_world.specs.declared.messages.Attempt.{Attempt}
 use Rattle.ft_world.specs.declared.messages.Message.{Message}
 use Rattle.ft_world.specs.declared.messages.Message.TheVariants as messages
 use Rattle.ft_world.specs.declared.messages.Reply.{Reply}
+
+-- what the law of a group gives: opening, a request, and a message keep it
+pub record KeepsOnce : Type 0 where
+  pub opens : OpensOnce
+  pub serves : ServesOnce
+  pub asks : AsksOnce
 
 -- of all groups
 
@@ -57,17 +64,17 @@ unless_keeps (Some why) calls turn keeps = tt
 judged_keeps : (w : World) (report : List ReportLine) (calls : ℕ) → EachOnce w.groups → Keeps (judged w report calls)
 judged_keeps w report calls each = unless_keeps (first_cause (total_causes (totals_of w))) calls (Goes w report calls) each
 
-call_by_keeps : (w : World) (c : Placed Client) (g : Placed Group) (op : List ℕ) (said : Said) (o : Option ℕ) → EachOnce w.groups →
+call_by_keeps : (w : World) (c : Placed Client) (g : Placed Group) (op : List ℕ) (said : CallWords) (o : Option ℕ) → EachOnce w.groups →
     Keeps (call_by w c g op said o)
 call_by_keeps w c g op said None each = judged_keeps (called w c g op said) _ 0 each
 call_by_keeps w c g op said (Some id) each = each
 
-call_from_keeps : (w : World) (o : Option (Placed Client)) (g : Placed Group) (op : List ℕ) (said : Said) → EachOnce w.groups →
+call_from_keeps : (w : World) (o : Option (Placed Client)) (g : Placed Group) (op : List ℕ) (said : CallWords) → EachOnce w.groups →
     Keeps (call_from w o g op said)
 call_from_keeps w None g op said each = tt
 call_from_keeps w (Some c) g op said each = call_by_keeps w c g op said c.value.waiting each
 
-call_said_keeps : (w : World) (client : List ℕ) (g : Placed Group) (op : List ℕ) (r : Result Said LineFault) → EachOnce w.groups →
+call_said_keeps : (w : World) (client : List ℕ) (g : Placed Group) (op : List ℕ) (r : Result CallWords LineFault) → EachOnce w.groups →
     Keeps (call_said w client g op r)
 call_said_keeps w client g op (Err why) each = tt
 call_said_keeps w client g op (Ok said) each = call_from_keeps w _ g op said each
@@ -77,14 +84,14 @@ call_to_keeps : (w : World) (client : List ℕ) (o : Option (Placed Group)) (op 
 call_to_keeps w client None op words each = tt
 call_to_keeps w client (Some g) op words each = call_said_keeps w client g op _ each
 
-arrives_keeps : (w : World) (a : Attempt) (og : Option Group) (oc : Option Client) → slice_get w.groups a.group ≡ og → EachOnce w.groups →
+arrives_keeps : KeepsOnce → (w : World) (a : Attempt) (og : Option Group) (oc : Option Client) → slice_get w.groups a.group ≡ og → EachOnce w.groups →
     Keeps (arrives_of w a og oc)
-arrives_keeps w a None oc at each = each
-arrives_keeps w a (Some g) None at each = each
-arrives_keeps w a (Some g) (Some c) at each =
+arrives_keeps law w a None oc at each = each
+arrives_keeps law w a (Some g) None at each = each
+arrives_keeps law w a (Some g) (Some c) at each =
     let served : Served = serve g (slice_index w.hosts a.host.0) a.request in
     judged_keeps (replied w a g.name served) _ served.calls
-    (each_set w.groups a.group served.group each (serve_once g (slice_index w.hosts a.host.0) a.request (each_got w.groups a.group g each at)))
+    (each_set w.groups a.group served.group each (law.serves g (slice_index w.hosts a.host.0) a.request (each_got w.groups a.group g each at)))
 
 heard_keeps : (w : World) (k : ℕ) (r : Reply) (o : Option Client) → EachOnce w.groups → Keeps (heard_by w k r o)
 heard_keeps w k r None each = each
@@ -94,19 +101,16 @@ heard_keeps w k r (Some c) each = go (is_waiting_for r.id c.waiting)
     go true = each
     go false = each
 
-delivered_keeps : (w : World) (k : ℕ) (o : Option Message) → EachOnce w.groups → Keeps (delivered w k o)
-delivered_keeps w k None each = tt
-delivered_keeps w k (Some (messages.Attempt a)) each = arrives_keeps w a (slice_get w.groups a.group) (slice_get w.clients a.client) refl each
-delivered_keeps w k (Some (messages.Reply r)) each = heard_keeps w k r (slice_get w.clients r.client) each
+delivered_keeps : KeepsOnce → (w : World) (k : ℕ) (o : Option Message) → EachOnce w.groups → Keeps (delivered w k o)
+delivered_keeps law w k None each = tt
+delivered_keeps law w k (Some (messages.Attempt a)) each = arrives_keeps law w a (slice_get w.groups a.group) (slice_get w.clients a.client) refl each
+delivered_keeps law w k (Some (messages.Reply r)) each = heard_keeps w k r (slice_get w.clients r.client) each
 
 show_keeps : (w : World) (o : Option (Placed Group)) → EachOnce w.groups → Keeps (show_found w o)
 show_keeps w None each = tt
 show_keeps w (Some g) each = each
 
 -- a message's turn keeps it, and so does a link
-abbrev KeepsLink : LinkTurn → Type 0
-KeepsLink (Serves next lines calls) = EachOnce next.groups
-KeepsLink (Ends end) = Unit {0}
 
 mapped_at : (groups : List Group) (i : ℕ) (g : Placed Group) (o : Option Group) → slice_get groups i ≡ o → option_map (placed i) o ≡ Some g →
     slice_get groups g.place ≡ Some g.value
@@ -114,65 +118,59 @@ mapped_at groups i g None at e = absurd cc
 mapped_at groups i g (Some x) at e =
     let same : placed i x ≡ g = cc in subst (λ (h : Placed Group). slice_get groups h.place ≡ Some h.value) same at
 
-keyed_at : (w : World) (o : Option ℕ) (g : Placed Group) → group_by w o ≡ Some g → slice_get w.groups g.place ≡ Some g.value
+keyed_at : (w : World) (o : Option GroupId) (g : Placed Group) → group_by w o ≡ Some g → slice_get w.groups g.place ≡ Some g.value
 keyed_at w None g e = absurd cc
-keyed_at w (Some n) g e = go (n == 0) e
+keyed_at w (Some group) g e = go (group.0 == 0) e
   where
-    go : (b : Bool) → cond b None (option_map (placed (n - 1)) (slice_get w.groups (n - 1))) ≡ Some g → slice_get w.groups g.place ≡ Some g.value
+    go : (b : Bool) → cond b None (option_map (placed (group.0 - 1)) (slice_get w.groups (group.0 - 1))) ≡ Some g → slice_get w.groups g.place ≡ Some g.value
     go true k = absurd cc
-    go false k = mapped_at w.groups (n - 1) g (slice_get w.groups (n - 1)) refl k
+    go false k = mapped_at w.groups (group.0 - 1) g (slice_get w.groups (group.0 - 1)) refl k
 
-request_keeps : (w : World) (host : ℕ) (r : RequestMsg) (order : Order) (o : Option (Placed Group)) → group_keyed w r.key ≡ o → EachOnce w.groups →
-    KeepsLink (request_turn w host r order o)
-request_keeps w host r order None at each = each
-request_keeps w host r order (Some g) at each =
+request_keeps : KeepsOnce → (w : World) (host : ℕ) (r : RequestMsg) (order : Order) (o : Option (Placed Group)) → group_keyed w r.key ≡ o → EachOnce w.groups →
+    EachOnce (request_turn w host r order o).world.groups
+request_keeps law w host r order None at each = each
+request_keeps law w host r order (Some g) at each =
     let asked : Asked = asked_of r.contexts r.op r.body in
     each_set w.groups g.place (ask g.value host (slice_index w.hosts host) asked).group each
-    (ask_once g.value host (slice_index w.hosts host) asked (each_got w.groups g.place g.value each (keyed_at w (number_in r.key) g at)))
+    (law.asks g.value host (slice_index w.hosts host) asked (each_got w.groups g.place g.value each (keyed_at w (group_of_key r.key) g at)))
 
-message_keeps : (w : World) (host : ℕ) (m : giop.Message) (order : Order) → EachOnce w.groups → KeepsLink (message_turn w host m order)
-message_keeps w host (sent.Request r) order each = request_keeps w host r order (group_keyed w r.key) refl each
-message_keeps w host (sent.Reply r) order each = tt
-message_keeps w host (sent.Cancel id) order each = each
-message_keeps w host (sent.LocateRequest id key) order each = each
-message_keeps w host (sent.LocateReply id status) order each = tt
-message_keeps w host sent.CloseConnection order each = tt
-message_keeps w host sent.MessageError order each = tt
-message_keeps w host (sent.Fragment id rest) order each = each
+message_keeps : KeepsOnce → (w : World) (host : ℕ) (m : giop.Message) (order : Order) → EachOnce w.groups → EachOnce (message_turn w host m order).world.groups
+message_keeps law w host (sent.Request r) order each = request_keeps law w host r order (group_keyed w r.key) refl each
+message_keeps law w host (sent.Reply r) order each = each
+message_keeps law w host (sent.Cancel id) order each = each
+message_keeps law w host (sent.LocateRequest id key) order each = each
+message_keeps law w host (sent.LocateReply id status) order each = each
+message_keeps law w host sent.CloseConnection order each = each
+message_keeps law w host sent.MessageError order each = each
+message_keeps law w host (sent.Fragment id rest) order each = each
 
-continued_keeps : (turn : LinkTurn) (w : World) (rest : World → Linked) → EachOnce w.groups → KeepsLink turn →
-    ((next : World) → EachOnce next.groups → EachOnce (rest next).world.groups) → EachOnce (continued turn w rest).world.groups
-continued_keeps (Serves next lines calls) w rest each keeps behind = behind next keeps
-continued_keeps (Ends end) w rest each keeps behind = each
+served_keeps : KeepsOnce → (w : World) (host : ℕ) (ms : List Received) → EachOnce w.groups → EachOnce (served_all w host ms).world.groups
+unfolding served_all
+served_keeps law w host [] each = each
+served_keeps law w host (m ∷ ms) each =
+    served_keeps law (message_turn w host m.0 m.1).world host ms (message_keeps law w host m.0 m.1 each)
 
-session_keeps : (w : World) (host : ℕ) (ms : List Received) (end : LinkEnd) → EachOnce w.groups → EachOnce (session w host ms end).world.groups
-unfolding session
-session_keeps w host [] end each = each
-session_keeps w host (m ∷ ms) end each =
-    continued_keeps (message_turn w host m.0 m.1) w (λ next. session next host ms end) each (message_keeps w host m.0 m.1 each)
-    (λ next keeps. session_keeps next host ms end keeps)
-
-act_keeps : (w : World) (line : Line) → EachOnce w.groups → Keeps (act w line)
-act_keeps w (lines.Hosts count) each = unless_keeps (first_cause (hosts_causes w count)) 0 (Goes (with_hosts w count) [] 0) each
-act_keeps w (lines.Group name member) each =
-    unless_keeps (first_cause (group_causes w name (member ∷ []))) 0 (made_group w name member) (each_push w.groups (new_group name member) each once_none)
-act_keeps w (lines.Client name) each = unless_keeps (first_cause (client_causes w name)) 0 (Goes (with_client w name) [] 0) each
-act_keeps w (lines.Call client group op words) each = call_to_keeps w client _ op words each
-act_keeps w (lines.Deliver k) each = delivered_keeps w k (message_numbered w k) each
-act_keeps w (lines.Tick ticks) each = each
-act_keeps w (lines.Show name) each = show_keeps w _ each
-act_keeps w (lines.Inject host bytes) each =
+act_keeps : KeepsOnce → (w : World) (line : Line) → EachOnce w.groups → Keeps (act w line)
+act_keeps law w (lines.Hosts count) each = unless_keeps (first_cause (hosts_causes w count)) 0 (Goes (with_hosts w count) [] 0) each
+act_keeps law w (lines.Group name member) each =
+    unless_keeps (first_cause (group_causes w name (member ∷ []))) 0 (made_group w name member) (each_push w.groups (new_group name member) each law.opens)
+act_keeps law w (lines.Client name) each = unless_keeps (first_cause (client_causes w name)) 0 (Goes (with_client w name) [] 0) each
+act_keeps law w (lines.Call client group op words) each = call_to_keeps w client _ op words each
+act_keeps law w (lines.Deliver k) each = delivered_keeps law w k (message_numbered w k) each
+act_keeps law w (lines.Tick ticks) each = each
+act_keeps law w (lines.Show name) each = show_keeps w _ each
+act_keeps law w (lines.Inject host bytes) each =
     let l : Linked = link_of w host bytes in
     unless_keeps (first_cause (inject_causes w host)) 0 (linked_turn l)
-    (judged_keeps l.world l.lines l.calls (session_keeps w host (stream bytes).messages (link_end (stream bytes).end) each))
+    (judged_keeps l.world l.lines l.calls (served_keeps law w host (session bytes).messages each))
 
 turn_keeps : (w : World) (turn : Turn) (rest : World → World) → EachOnce w.groups → Keeps turn →
     ((next : World) → EachOnce next.groups → EachOnce (rest next).groups) → EachOnce (or_stay w turn rest).groups
 turn_keeps w (Goes next report calls) rest each keeps behind = behind next keeps
 turn_keeps w (Refused why calls) rest each keeps behind = each
 
-pub after_keeps : (w : World) (script : List Line) → EachOnce w.groups → EachOnce (world_after w script).groups
+pub after_keeps : KeepsOnce → (w : World) (script : List Line) → EachOnce w.groups → EachOnce (world_after w script).groups
 unfolding world_after
-after_keeps w [] each = each
-after_keeps w (line ∷ script) each =
-    turn_keeps w (act w line) (λ next. world_after next script) each (act_keeps w line each) (λ next keeps. after_keeps next script keeps)
+after_keeps law w [] each = each
+after_keeps law w (line ∷ script) each =
+    turn_keeps w (act w line) (λ next. world_after next script) each (act_keeps law w line each) (λ next keeps. after_keeps law next script keeps)

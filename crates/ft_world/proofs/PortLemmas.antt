@@ -10,17 +10,18 @@ use Rattle.cdr_codec.specs.declared.orders.Order.TheVariants.{Big, Little}
 use Rattle.iogr_reference.specs.declared.references.Ior.{Ior}
 use Rattle.iogr_reference.specs.declared.references.Profile.{Profile}
 use Rattle.iogr_reference.specs.Formats.{ior}
+use Rattle.iogr_reference.specs.Choices.{port_of}
 use Rattle.iogr_reference.specs.Views.{member_profile}
 use Rattle.host_server.specs.Replies.{IsForward}
 use Rattle.ft_world.specs.Links.{ports, reference}
 
-ports_length : length ports ≡ 256
+ports_length : (host : ℕ) → length (ports host) ≡ host + 1
 unfolding ports
-ports_length = length-map-range_with_len (λ (host : ℕ). 2000 + host) 0 256
+ports_length host = length-map-range_with_len port_of 0 (host + 1)
 
-pub member_has_port : (hosts all : List ℕ) (host : ℕ) → hosts ≡ host ∷ [] → all ≡ ports → host < 256 → All (λ (h : ℕ). h < length all) hosts
-member_has_port hosts all host is are h =
-    let count : length all ≡ 256 = ap length are ∙ ports_length in
+pub member_has_port : (hosts all : List ℕ) (host : ℕ) → hosts ≡ host ∷ [] → all ≡ ports host → All (λ (h : ℕ). h < length all) hosts
+member_has_port hosts all host is are =
+    let count : length all ≡ host + 1 = ap length are ∙ ports_length host in
     subst (λ (hs : List ℕ). All (λ (h : ℕ). h < length all) hs) (sym is)
     (All-cons (λ (h : ℕ). h < length all) host [] (let e : host < length all = omega arith in e) (All-nil (λ (h : ℕ). h < length all)))
 
@@ -48,8 +49,8 @@ is_forward order place host = record {
     no_zero = refl;
     short = let e : length (codes "IDL:ftc/Account:1.0") ≡ 19 = refl in omega arith;
     counted = let e : length (reference place host).profiles ≡ 1 = refl in omega arith;
-    contents = All-cons (λ (p : Profile). length p.content < 2 ^ 32) (member_profile (record { 0 = place + 1 }) (record { 0 = 1 }) (slice_index ports host) (host == host)) []
-        (content_short place (slice_index ports host) (host == host)) (All-nil (λ (p : Profile). length p.content < 2 ^ 32));
+    contents = All-cons (λ (p : Profile). length p.content < 2 ^ 32) (member_profile (record { 0 = place + 1 }) (record { 0 = 1 }) (slice_index (ports host) host) (host == host)) []
+        (content_short place (slice_index (ports host) host) (host == host)) (All-nil (λ (p : Profile). length p.content < 2 ^ 32));
   };
-  short = one_short order place (slice_index ports host) (host == host);
+  short = one_short order place (slice_index (ports host) host) (host == host);
 }

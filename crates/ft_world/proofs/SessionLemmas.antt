@@ -1,220 +1,181 @@
--- A link that is served message after message, against the link as a whole.
-use Rattle.std.proofs.Common.{◌≡◌, ℕ, ◌+◌, List, [], ◌∷◌, ◌++◌, Option, Some, None, Result, Ok, Err, refl, subst, sym, ap, ◌∙◌, arith, append_assoc}
-use Rattle.std.specs.Prelude.{IfOk, OnOk}
-use Rattle.std.proofs.lemmas.List.{append-nil}
-use Rattle.ft_base.specs.declared.memory.NoMemory.{NoMemory}
-use Rattle.giop_stream.specs.declared.faults.StreamFault.{StreamFault}
-use Rattle.giop_stream.specs.declared.faults.StreamFault.TheVariants as faults
-use Rattle.giop_stream.specs.Faults.{OnFault}
+-- A link's session, served message by message.
+use Rattle.std.proofs.Common.{◌≡◌, ℕ, ◌+◌, ◌≤◌, List, [], ◌∷◌, ◌++◌, length, Ok, refl, sym, ap, subst, ◌∙◌, arith, append_assoc, append-nil}
+use Rattle.std.proofs.lemmas.List.Elements.{All-weaker}
+use Rattle.ft_contexts.specs.declared.lists.Context.{Context}
+use Rattle.ft_contexts.specs.Finding.{IsShort}
+use Rattle.giop_messages.specs.declared.heads.TheConstants.{MESSAGE_LIMIT}
+use Rattle.giop_messages.specs.declared.messages.Message.{Message}
+use Rattle.giop_messages.specs.declared.messages.Message.TheVariants as messages
+use Rattle.giop_messages.specs.Laws.{MessagesAreWithin, IsWithin}
+use Rattle.giop_stream.specs.declared.sessions.SessionStep.{SessionStep}
+use Rattle.giop_stream.specs.declared.sessions.SessionStep.TheVariants as steps
+use Rattle.giop_stream.specs.declared.sessions.StreamEnd.{StreamEnd}
 use Rattle.giop_stream.specs.Parts.{Received}
-use Rattle.giop_stream.specs.Streams.{End, Rest, Stops, Streamed, behind, stream}
-use Rattle.giop_stream.specs.Frames.{EndsWith, Frames, HasNext, Stands, resume}
+use Rattle.giop_stream.specs.Sessions.{Serving as Stage, Serves, AreAll, Goes, Session, served_on, served_before, session}
+use Rattle.giop_stream.specs.Spelled.{IsSpelled}
+use Rattle.group_core.specs.Kept.{IsCountedWithin}
 use Rattle.ft_report.specs.declared.reports.ReportLine.{ReportLine}
 use Rattle.ft_world.specs.World.{World}
-use Rattle.ft_world.specs.Links.{LinkTurn, Linked, Serves, Ends, continued, end_lines, ended_link, fault_end, link_end, link_of, linked_behind, message_turn, rest_end, session}
-use Rattle.ft_world.specs.Serving.{Ended, IsEnded, IsEnding, IsOfLink, IsServing, IsShortMessage, Taking, turn_calls}
-use Rattle.ft_world.proofs.ShortLemmas.{given_short}
-use Rattle.group_core.specs.Kept.{IsCountedWithin}
-use Rattle.ft_world.specs.declared.links.LinkEnd.{LinkEnd}
+use Rattle.ft_world.specs.Links.{Linked, serving, link_of, linked_on, message_turn, served_all, with_end}
+use Rattle.ft_world.specs.Serving.{IsEnded, IsServing, IsShortMessage}
 
--- the two laws of a session
-session_ends : (w : World) (host : ℕ) (end : LinkEnd) → session w host [] end ≡ ended_link w end
-unfolding session
-session_ends w host end = refl
+-- ---- what is spelled by at most 1 MiB has short contexts and a short body
 
-session_goes : (w : World) (host : ℕ) (m : Received) (ms : List Received) (end : LinkEnd) →
-    session w host (m ∷ ms) end ≡ continued (message_turn w host m.0 m.1) w (λ next. session next host ms end)
-unfolding session
-session_goes w host m ms end = refl
+short_by : (count : ℕ) (m : Message) → count ≤ MESSAGE_LIMIT → IsWithin count m → IsShortMessage m
+short_by count (messages.Request r) few within = record {
+  contexts = All-weaker (λ (c : Context). length c.content ≤ count) IsShort (λ (c : Context) (h : length c.content ≤ count). omega (arith, h, few)) r.contexts within.contexts;
+  body = omega (arith, within.body.aligned, within.body.short, few);
+}
+short_by count (messages.Reply r) few within = tt
+short_by count (messages.Cancel id) few within = tt
+short_by count (messages.LocateRequest id key) few within = tt
+short_by count (messages.LocateReply id status) few within = tt
+short_by count messages.CloseConnection few within = tt
+short_by count messages.MessageError few within = tt
+short_by count (messages.Fragment id rest) few within = tt
 
--- lines and calls before a link, in two steps
-none_of : (w : World) (lines : List ReportLine) (calls : ℕ) →
-    linked_behind [] 0 (record { world = w; lines = lines; calls = calls }) ≡ record { world = w; lines = lines; calls = calls }
-none_of w lines calls =
-    let same : 0 + calls ≡ calls = omega arith in ap (λ (n : ℕ). record { world = w; lines = lines; calls = n }) same
+pub spelled_short : MessagesAreWithin → (m : Received) → IsSpelled m → IsShortMessage m.0
+spelled_short law m s = short_by (length s.bytes) m.0 s.small (law s.bytes m.1 m.0 s.spelled)
 
-none_continued : (turn : LinkTurn) (w : World) (rest : World → Linked) → linked_behind [] 0 (continued turn w rest) ≡ continued turn w rest
-none_continued (Serves next lines calls) w rest = none_of (rest next).world (lines ++ (rest next).lines) (calls + (rest next).calls)
-none_continued (Ends end) w rest = none_of w (end_lines end) 0
+-- ---- messages served one after another
 
-behind_none : (w : World) (host : ℕ) (ms : List Received) (end : LinkEnd) → linked_behind [] 0 (session w host ms end) ≡ session w host ms end
-behind_none w host [] end = ap (linked_behind [] 0) (session_ends w host end) ∙ none_of w (end_lines end) 0 ∙ sym (session_ends w host end)
-behind_none w host (m ∷ ms) end =
-    ap (linked_behind [] 0) (session_goes w host m ms end) ∙ none_continued (message_turn w host m.0 m.1) w (λ next. session next host ms end)
-    ∙ sym (session_goes w host m ms end)
+served_none : (w : World) (host : ℕ) → served_all w host [] ≡ serving w [] 0
+unfolding served_all
+served_none w host = refl
 
-behind_both : (xs ys : List ReportLine) (m n : ℕ) (l : Linked) → linked_behind xs m (linked_behind ys n l) ≡ linked_behind (xs ++ ys) (m + n) l
-behind_both xs ys m n l =
-    let lines : xs ++ (ys ++ l.lines) ≡ (xs ++ ys) ++ l.lines = sym (append_assoc xs ys l.lines) in
-    let calls : m + (n + l.calls) ≡ (m + n) + l.calls = omega arith in
-    ap (λ (ls : List ReportLine). record { world = l.world; lines = ls; calls = m + (n + l.calls) }) lines
-    ∙ ap (λ (c : ℕ). record { world = l.world; lines = (xs ++ ys) ++ l.lines; calls = c }) calls
+served_one : (w : World) (host : ℕ) (m : Received) (ms : List Received) →
+    served_all w host (m ∷ ms) ≡ linked_on (message_turn w host m.0 m.1) (λ next. served_all next host ms)
+unfolding served_all
+served_one w host m ms = refl
 
--- In the midst of a link: these messages were given. Whatever still comes, the whole link is what was printed
--- and called so far, and then what comes of the rest.
-pub record IsAmid (old : World) (host : ℕ) (fed : List ℕ) (w : World) (f : Frames) (report : List ReportLine) (before now : ℕ) : Type 0 where
+-- what comes of some messages, and then of others
+on_both : (a b : Linked) (rest : World → Linked) → linked_on a (λ next. linked_on b (λ after. rest after)) ≡ linked_on (linked_on a (λ next. b)) rest
+on_both a b rest =
+    let l = rest b.world in
+    ap (λ (ls : List ReportLine). serving l.world ls (a.calls + (b.calls + l.calls))) (sym (append_assoc a.lines b.lines l.lines))
+    ∙ ap (λ (n : ℕ). serving l.world ((a.lines ++ b.lines) ++ l.lines) n) (let e : a.calls + (b.calls + l.calls) ≡ (a.calls + b.calls) + l.calls = omega arith in e)
+
+none_before : (l : Linked) → linked_on (serving l.world [] 0) (λ next. l) ≡ l
+none_before l = ap (λ (n : ℕ). serving l.world l.lines n) (let e : 0 + l.calls ≡ l.calls = omega arith in e)
+
+served_both : (w : World) (host : ℕ) (ms more : List Received) → served_all w host (ms ++ more) ≡ linked_on (served_all w host ms) (λ next. served_all next host more)
+served_both w host [] more =
+    let l = served_all w host more in
+    ap (λ (n : ℕ). serving l.world l.lines n) (let e : l.calls ≡ 0 + l.calls = omega arith in e)
+    ∙ ap (λ (a : Linked). linked_on a (λ next. served_all next host more)) (sym (served_none w host))
+served_both w host (m ∷ ms) more =
+    let turn = message_turn w host m.0 m.1 in
+    served_one w host m (ms ++ more)
+    ∙ ap (λ (l : Linked). linked_on turn (λ next. l)) (served_both turn.world host ms more)
+    ∙ on_both turn (served_all turn.world host ms) (λ next. served_all next host more)
+    ∙ ap (λ (a : Linked). linked_on a (λ next. served_all next host more)) (sym (served_one w host m ms))
+
+served_last : (w : World) (host : ℕ) (m : Received) → served_all w host (m ∷ []) ≡ message_turn w host m.0 m.1
+served_last w host m =
+    let turn = message_turn w host m.0 m.1 in
+    served_one w host m [] ∙ ap (λ (l : Linked). linked_on turn (λ next. l)) (served_none turn.world host)
+    ∙ ap (λ (ls : List ReportLine). serving turn.world ls (turn.calls + 0)) (append-nil turn.lines)
+    ∙ ap (λ (n : ℕ). serving turn.world turn.lines n) (let e : turn.calls + 0 ≡ turn.calls = omega arith in e)
+
+-- ---- in the midst of a link
+
+-- These messages were served: what was printed and called so far is what comes of them.
+pub record IsAmid (old : World) (host : ℕ) (fed : List ℕ) (w : World) (s : Stage) (report : List ReportLine) (before now : ℕ) : Type 0 where
   pub given : List Received
   pub calls : ℕ
-  pub stands : Stands f fed given
-  pub on : (ms : List Received) (end : LinkEnd) → session old host (given ++ ms) end ≡ linked_behind report calls (session w host ms end)
+  pub serves : Serves s fed given
+  pub so : served_all old host given ≡ serving w report calls
   pub counted : now ≡ before + calls
 
-pub begins : (w : World) (host : ℕ) (fed : List ℕ) (f : Frames) (report : List ReportLine) (now : ℕ) → report ≡ [] → Stands f fed [] →
-    IsAmid w host fed w f report now now
-begins w host fed f report now none stands = record {
+pub begins : (w : World) (host : ℕ) (fed all : List ℕ) (s : Stage) (report : List ReportLine) (now : ℕ) → report ≡ [] → all ≡ fed → Serves s ([] ++ all) [] →
+    IsAmid w host fed w s report now now
+begins w host fed all s report now none is serves = record {
   given = [];
   calls = 0;
-  stands = stands;
-  on = λ ms end. sym (behind_none w host ms end) ∙ ap (λ (ls : List ReportLine). linked_behind ls 0 (session w host ms end)) (sym none);
+  serves = subst (λ (bytes : List ℕ). Serves s bytes []) is serves;
+  so = served_none w host ∙ ap (λ (ls : List ReportLine). serving w ls 0) (sym none);
   counted = omega arith;
 }
 
--- one message more, and whatever comes of its turn
-on_turn : (old : World) (host : ℕ) (fed : List ℕ) (w : World) (f : Frames) (report : List ReportLine) (before now : ℕ) (a : IsAmid old host fed w f report before now)
-    (m : Received) (ms : List Received) (end : LinkEnd) (turn : LinkTurn) → message_turn w host m.0 m.1 ≡ turn →
-    session old host ((a.given ++ m ∷ []) ++ ms) end ≡ linked_behind report a.calls (continued turn w (λ next. session next host ms end))
-on_turn old host fed w f report before now a m ms end turn is =
-    ap (λ (xs : List Received). session old host xs end) (append_assoc a.given (m ∷ []) ms) ∙ a.on (m ∷ ms) end
-    ∙ ap (linked_behind report a.calls) (session_goes w host m ms end)
-    ∙ ap (λ (t : LinkTurn). linked_behind report a.calls (continued t w (λ next. session next host ms end))) is
-
-pub goes_on : (old : World) (host : ℕ) (fed : List ℕ) (w new : World) (f g : Frames) (report later_report : List ReportLine) (before now later : ℕ) (m : Received) →
-    (a : IsAmid old host fed w f report before now) → Stands g fed (a.given ++ m ∷ []) →
-    IsServing (message_turn w host m.0 m.1) new report later_report now later → IsAmid old host fed new g later_report before later
-goes_on old host fed w new f g report later_report before now later m a stands s = record {
+pub goes_on : (old : World) (host : ℕ) (fed : List ℕ) (w new : World) (s t : Stage) (report later_report : List ReportLine) (before now later : ℕ) (m : Received)
+    (a : IsAmid old host fed w s report before now) → Serves t fed (a.given ++ m ∷ []) →
+    IsServing (message_turn w host m.0 m.1) new report later_report now later → IsAmid old host fed new t later_report before later
+goes_on old host fed w new s t report later_report before now later m a serves turn = record {
   given = a.given ++ m ∷ [];
-  calls = a.calls + s.calls;
-  stands = stands;
-  on = λ ms end.
-      on_turn old host fed w f report before now a m ms end (Serves new s.lines s.calls) s.is
-      ∙ behind_both report s.lines a.calls s.calls (session new host ms end)
-      ∙ ap (λ (ls : List ReportLine). linked_behind ls (a.calls + s.calls) (session new host ms end)) (sym s.printed);
-  counted = omega (arith, a.counted, s.counted);
+  calls = a.calls + turn.calls;
+  serves = serves;
+  so = served_both old host a.given (m ∷ [])
+      ∙ ap (λ (l : Linked). linked_on l (λ next. served_all next host (m ∷ []))) a.so
+      ∙ ap (λ (l : Linked). linked_on (serving w report a.calls) (λ next. l)) (served_last w host m ∙ turn.is)
+      ∙ ap (λ (ls : List ReportLine). serving new ls (a.calls + turn.calls)) (sym turn.printed);
+  counted = omega (arith, a.counted, turn.counted);
 }
 
 -- ---- the end
 
-stream_is : (f : Frames) (fed : List ℕ) (given : List Received) → Stands f fed given → stream fed ≡ behind given (resume f [])
-stream_is f fed given s = ap stream (sym (append-nil fed)) ∙ s.on []
+link_by : (w : World) (host : ℕ) (fed : List ℕ) (s : Session) → session fed ≡ s → link_of w host fed ≡ with_end s.end (served_all w host s.messages)
+link_by w host fed s is = ap (λ (t : Session). with_end t.end (served_all w host t.messages)) is
 
-link_by : (w : World) (host : ℕ) (fed : List ℕ) (s : Streamed) → stream fed ≡ s → link_of w host fed ≡ session w host s.messages (link_end s.end)
-link_by w host fed s is = ap (λ (t : Streamed). session w host t.messages (link_end t.end)) is
-
-is_ended : (l : Linked) (w new : World) (end : LinkEnd) (report later_report : List ReportLine) (calls before later : ℕ) →
-    l ≡ linked_behind report calls (ended_link w end) → new ≡ w → later_report ≡ report → later ≡ before + calls → IsEnded l end new later_report before later
-is_ended l w new end report later_report calls before later is world lines counted =
-    let called : l.calls ≡ calls + 0 = ap (λ (k : Linked). k.calls) is in
+pub ends_so : (old : World) (host : ℕ) (fed : List ℕ) (w : World) (s : Stage) (report : List ReportLine) (before now : ℕ) (end : StreamEnd)
+    (a : IsAmid old host fed w s report before now) → session fed ≡ record { messages = a.given; end = end } →
+    IsEnded (link_of old host fed) end w report before now
+ends_so old host fed w s report before now end a is =
+    let l : link_of old host fed ≡ with_end end (serving w report a.calls) =
+    link_by old host fed (record { messages = a.given; end = end }) is ∙ ap (with_end end) a.so in
+    let called : (link_of old host fed).calls ≡ a.calls = ap (λ (k : Linked). k.calls) l in
     record {
-      world = ap (λ (k : Linked). k.world) is ∙ sym world;
-      lines = ap (λ (k : Linked). k.lines) is ∙ ap (λ (ls : List ReportLine). ls ++ (ended_link w end).lines) (sym lines);
-      counted = omega (arith, called, counted);
+      world = ap (λ (k : Linked). k.world) l;
+      lines = ap (λ (k : Linked). k.lines) l;
+      counted = omega (arith, called, a.counted);
     }
 
--- a message ended the link
-pub ends_by : (old : World) (host : ℕ) (fed : List ℕ) (w new : World) (f g : Frames) (report later_report : List ReportLine) (before now later : ℕ) (m : Received)
-    (end : LinkEnd) → (a : IsAmid old host fed w f report before now) → Stands g fed (a.given ++ m ∷ []) →
-    IsEnding (message_turn w host m.0 m.1) end w new report later_report now later → IsEnded (link_of old host fed) end new later_report before later
-ends_by old host fed w new f g report later_report before now later m end a stands e =
-    let rest = resume g [] in
-    let s : stream fed ≡ behind (a.given ++ m ∷ []) rest = stream_is g fed (a.given ++ m ∷ []) stands in
-    let l : link_of old host fed ≡ linked_behind report a.calls (ended_link w end) =
-    link_by old host fed (behind (a.given ++ m ∷ []) rest) s
-    ∙ on_turn old host fed w f report before now a m rest.messages (link_end rest.end) (Ends end) e.is in
-    is_ended (link_of old host fed) w new end report later_report a.calls before later l e.world e.printed (omega (arith, e.counted, a.counted))
-
--- the stream ended behind the messages that were given
-ends_with : (old : World) (host : ℕ) (fed : List ℕ) (w : World) (f : Frames) (report : List ReportLine) (before now : ℕ) (end : End)
-    (a : IsAmid old host fed w f report before now) → stream fed ≡ record { messages = a.given; end = end } →
-    IsEnded (link_of old host fed) (link_end end) w report before now
-ends_with old host fed w f report before now end a s =
-    is_ended (link_of old host fed) w w (link_end end) report report a.calls before now
-    (link_by old host fed (record { messages = a.given; end = end }) s
-    ∙ ap (λ (xs : List Received). session old host xs (link_end end)) (sym (append-nil a.given)) ∙ a.on [] (link_end end)
-    ∙ ap (linked_behind report a.calls) (session_ends w host (link_end end)))
-    refl refl a.counted
-
-pub ends_at_rest : (old : World) (host : ℕ) (fed : List ℕ) (w : World) (f : Frames) (report : List ReportLine) (before now n : ℕ)
-    (a : IsAmid old host fed w f report before now) → stream fed ≡ record { messages = a.given; end = Rest n } →
-    IsEnded (link_of old host fed) (rest_end n) w report before now
-ends_at_rest old host fed w f report before now n a s = ends_with old host fed w f report before now (Rest n) a s
-
-pub ends_at_fault : (old : World) (host : ℕ) (fed : List ℕ) (w : World) (f : Frames) (report : List ReportLine) (before now : ℕ) (fault : StreamFault)
-    (a : IsAmid old host fed w f report before now) → EndsWith fed a.given fault → IsEnded (link_of old host fed) (fault_end fault) w report before now
-ends_at_fault old host fed w f report before now fault a e =
-    ends_with old host fed w f report before now (Stops fault) a (ap stream (sym (append-nil fed)) ∙ e [])
+pub over : (fed : List ℕ) (given : List Received) (end : StreamEnd) → ((more : List ℕ) → session (fed ++ more) ≡ record { messages = given; end = end }) →
+    session fed ≡ record { messages = given; end = end }
+over fed given end is = ap session (sym (append-nil fed)) ∙ is []
 
 -- ---- want of memory
 
-pub stops_between : (old : World) (host : ℕ) (fed : List ℕ) (w : World) (f g : Frames) (report : List ReportLine) (before now : ℕ) →
-    (a : IsAmid old host fed w f report before now) → Stands g fed a.given → IsCountedWithin (link_of old host fed).calls before now
-stops_between old host fed w f g report before now a stands =
-    let rest = resume g [] in
-    let tail = session w host rest.messages (link_end rest.end) in
-    let calls : (link_of old host fed).calls ≡ a.calls + tail.calls =
-    ap (λ (k : Linked). k.calls) (link_by old host fed (behind a.given rest) (stream_is g fed a.given stands) ∙ a.on rest.messages (link_end rest.end)) in
-    record { rises = omega (arith, a.counted); within = omega (arith, a.counted, calls) }
+-- the servant calls of the messages that were given are among those of the link
+calls_among : (old : World) (host : ℕ) (fed : List ℕ) (s : Stage) (given : List Received) → Serves s fed given →
+    (n : ℕ) × ((link_of old host fed).calls ≡ (served_all old host given).calls + n)
+calls_among old host fed s given serves =
+    let rest = served_on s [] s.ended in
+    let is : session fed ≡ served_before given rest = ap session (sym (append-nil fed)) ∙ serves.on [] in
+    let onward = λ (next : World). served_all next host rest.messages in (
+      (onward (served_all old host given).world).calls,
+      ap (λ (k : Linked). k.calls) (link_by old host fed (served_before given rest) is ∙ ap (with_end rest.end) (served_both old host given rest.messages)),
+    )
 
-turn_within : (turn : LinkTurn) (w : World) (rest : World → Linked) → (n : ℕ) × ((continued turn w rest).calls ≡ turn_calls turn + n)
-turn_within (Serves next lines calls) w rest = ((rest next).calls, refl)
-turn_within (Ends end) w rest = (0, refl)
+pub stops_between : (old : World) (host : ℕ) (fed : List ℕ) (w : World) (s t : Stage) (report : List ReportLine) (before now : ℕ)
+    (a : IsAmid old host fed w s report before now) → Serves t fed a.given → IsCountedWithin (link_of old host fed).calls before now
+stops_between old host fed w s t report before now a serves =
+    let among = calls_among old host fed t a.given serves in
+    let so_far : (served_all old host a.given).calls ≡ a.calls = ap (λ (k : Linked). k.calls) a.so in
+    record { rises = omega (arith, a.counted); within = omega (arith, a.counted, so_far, among.1) }
 
-pub stops_within : (old : World) (host : ℕ) (fed : List ℕ) (w : World) (f g : Frames) (report : List ReportLine) (before now later : ℕ) (m : Received) →
-    (a : IsAmid old host fed w f report before now) → Stands g fed (a.given ++ m ∷ []) →
-    IsCountedWithin (turn_calls (message_turn w host m.0 m.1)) now later → IsCountedWithin (link_of old host fed).calls before later
-stops_within old host fed w f g report before now later m a stands c =
-    let rest = resume g [] in
-    let onward = λ (next : World). session next host rest.messages (link_end rest.end) in
+pub stops_within : (old : World) (host : ℕ) (fed : List ℕ) (w : World) (s t : Stage) (report : List ReportLine) (before now later : ℕ) (m : Received)
+    (a : IsAmid old host fed w s report before now) → Serves t fed (a.given ++ m ∷ []) →
+    IsCountedWithin (message_turn w host m.0 m.1).calls now later → IsCountedWithin (link_of old host fed).calls before later
+stops_within old host fed w s t report before now later m a serves c =
+    let among = calls_among old host fed t (a.given ++ m ∷ []) serves in
     let turn = message_turn w host m.0 m.1 in
-    let some : (n : ℕ) × ((continued turn w onward).calls ≡ turn_calls turn + n) = turn_within turn w onward in
-    let calls : (link_of old host fed).calls ≡ a.calls + (continued turn w onward).calls =
+    let so_far : (served_all old host (a.given ++ m ∷ [])).calls ≡ a.calls + turn.calls =
     ap (λ (k : Linked). k.calls)
-    (link_by old host fed (behind (a.given ++ m ∷ []) rest) (stream_is g fed (a.given ++ m ∷ []) stands)
-    ∙ on_turn old host fed w f report before now a m rest.messages (link_end rest.end) turn refl) in
-    record { rises = omega (arith, a.counted, c.rises); within = omega (arith, a.counted, c.within, calls, some.1) }
+    (served_both old host a.given (m ∷ []) ∙ ap (λ (l : Linked). linked_on l (λ next. served_all next host (m ∷ []))) a.so
+    ∙ ap (λ (l : Linked). linked_on (serving w report a.calls) (λ next. l)) (served_last w host m)) in
+    record { rises = omega (arith, a.counted, c.rises); within = omega (arith, a.counted, c.within, so_far, among.1) }
 
--- ---- what `next` and a message's turn answered
+-- ---- what a step answered
 
-pub next_stands : (o : Option Received) (m : Received) (fed : List ℕ) (given : List Received) (g : Frames) → o ≡ Some m → HasNext (Ok o) fed given g →
-    Stands g fed (given ++ m ∷ [])
-next_stands o m fed given g is next = subst (λ (p : Option Received). HasNext (Ok p) fed given g) is next
+pub step_serves : (o : SessionStep) (m : Received) (fed : List ℕ) (given : List Received) (t : Stage) → o ≡ steps.Serve m → Goes (Ok o) fed given t →
+    Serves t fed (given ++ m ∷ [])
+step_serves o m fed given t is goes = subst (λ (p : SessionStep). Goes (Ok p) fed given t) is goes
 
-pub next_short : (m : Received) (fed : List ℕ) (given : List Received) (g : Frames) → Stands g fed (given ++ m ∷ []) → IsShortMessage m.0
-next_short m fed given g stands = given_short fed given m (resume g []) (stream_is g fed (given ++ m ∷ []) stands)
+pub step_waits : (o : SessionStep) (fed : List ℕ) (given : List Received) (t : Stage) → o ≡ steps.Wait → Goes (Ok o) fed given t →
+    Serves t fed given × AreAll fed given
+step_waits o fed given t is goes = subst (λ (p : SessionStep). Goes (Ok p) fed given t) is goes
 
-pub serving_of : (turn : LinkTurn) (o : Option LinkEnd) (old new : World) (report later_report : List ReportLine) (before later : ℕ) → o ≡ None →
-    Taking turn (Ok o) old new report later_report before later → IsServing turn new report later_report before later
-serving_of turn o old new report later_report before later is took =
-    subst (λ (p : Option LinkEnd). Taking turn (Ok p) old new report later_report before later) is took
-
-pub ending_of : (turn : LinkTurn) (o : Option LinkEnd) (end : LinkEnd) (old new : World) (report later_report : List ReportLine) (before later : ℕ) → o ≡ Some end →
-    Taking turn (Ok o) old new report later_report before later → IsEnding turn end old new report later_report before later
-ending_of turn o end old new report later_report before later is took =
-    subst (λ (p : Option LinkEnd). Taking turn (Ok p) old new report later_report before later) is took
-
-pub ends_none : (old : World) (host : ℕ) (fed : List ℕ) (w : World) (f g : Frames) (report : List ReportLine) (before now count : ℕ) (end : LinkEnd) (o : Option Received)
-    (a : IsAmid old host fed w f report before now) → o ≡ None → HasNext (Ok o) fed a.given g →
-    ((ms : List Received) (n : ℕ) → Stands g fed a.given → stream fed ≡ record { messages = ms; end = Rest n } → count ≡ n) → end ≡ rest_end count →
-    IsEnded (link_of old host fed) end w report before now
-ends_none old host fed w f g report before now count end o a is next counts ends =
-    let none : HasNext (Ok None) fed a.given g = subst (λ (p : Option Received). HasNext (Ok p) fed a.given g) is next in
-    let same : rest_end none.1.0 ≡ end = sym (ends ∙ ap rest_end (counts a.given none.1.0 none.0 none.1.1)) in
-    subst (λ (e : LinkEnd). IsEnded (link_of old host fed) e w report before now) same
-    (ends_at_rest old host fed w f report before now none.1.0 a none.1.1)
-
-of_fault : (fault : StreamFault) (P : Type 0) → IsOfLink fault → OnFault fault P → P
-of_fault (faults.Malformed why place) P of p = p
-of_fault (faults.TooLarge size) P of p = p
-of_fault faults.NoMemory P of p = absurd of
-
--- the stream is at fault, or there was no memory for its next message
-pub ends_fault : (old : World) (host : ℕ) (fed : List ℕ) (w : World) (f g : Frames) (report : List ReportLine) (before now : ℕ) (r : Result LinkEnd NoMemory)
-    (fault : StreamFault) (a : IsAmid old host fed w f report before now) → HasNext (Err fault) fed a.given g → IfOk r (λ (end : LinkEnd). end ≡ fault_end fault) →
-    OnOk r (IsOfLink fault) → Ended (link_of old host fed) r w report before now
-ends_fault old host fed w f g report before now (Ok end) fault a next is of =
-    subst (λ (e : LinkEnd). IsEnded (link_of old host fed) e w report before now) (sym is)
-    (ends_at_fault old host fed w f report before now fault a (of_fault fault (EndsWith fed a.given fault) of next.1))
-ends_fault old host fed w f g report before now (Err e) fault a next is of = stops_between old host fed w f g report before now a next.0
-
-pub whatever : (r : Result LinkEnd NoMemory) (P : Type 0) → P → OnOk r P
-whatever (Ok end) P p = p
-whatever (Err e) P p = tt
+pub step_ends : (o : SessionStep) (end : StreamEnd) (fed : List ℕ) (given : List Received) (t : Stage) → o ≡ steps.End end → Goes (Ok o) fed given t →
+    session fed ≡ record { messages = given; end = end }
+step_ends o end fed given t is goes =
+    over fed given end (subst (λ (p : SessionStep). Goes (Ok p) fed given t) is goes).1

@@ -1,5 +1,5 @@
 -- What the calls of a link answer.
-use Rattle.std.specs.Prelude.{◌≡◌, ℕ, ◌+◌, List, ◌++◌, slice_get, slice_set, Option, Some, None, Result, Ok, Err}
+use Rattle.std.specs.Prelude.{◌≡◌, ℕ, ◌+◌, List, ◌++◌, slice_get, slice_set, Some, Result, Ok, Err}
 use Rattle.std.specs.List.{All}
 use Rattle.ft_base.specs.declared.memory.NoMemory.{NoMemory}
 use Rattle.sys_faults.specs.declared.answers.Answer.{Answer}
@@ -10,17 +10,15 @@ use Rattle.ft_contexts.specs.Finding.{IsShort}
 use Rattle.giop_messages.specs.declared.messages.Message.{Message}
 use Rattle.giop_messages.specs.declared.messages.Message.TheVariants as messages
 use Rattle.giop_messages.specs.declared.messages.RequestMsg.{RequestMsg}
-use Rattle.giop_stream.specs.declared.faults.StreamFault.{StreamFault}
-use Rattle.giop_stream.specs.declared.faults.StreamFault.TheVariants as stream_faults
-use Rattle.group_core.specs.declared.asking.Asked.{Asked}
+use Rattle.giop_stream.specs.declared.sessions.StreamEnd.{StreamEnd}
+use Rattle.group_model.specs.declared.asking.Asked.{Asked}
 use Rattle.group_core.specs.declared.groups.Served.{Served}
 use Rattle.group_core.specs.Asked.{IsShortBody}
 use Rattle.group_core.specs.Group.{Group, ask}
 use Rattle.group_core.specs.Kept.{IsCountedWithin, IsServed}
 use Rattle.ft_report.specs.declared.reports.ReportLine.{ReportLine}
 use Rattle.ft_world.specs.World.{World}
-use Rattle.ft_world.specs.Links.{Linked, LinkTurn, Serves, Ends, end_lines}
-use Rattle.ft_world.specs.declared.links.LinkEnd.{LinkEnd}
+use Rattle.ft_world.specs.Links.{Linked, serving, end_lines}
 
 -- the places inside a request's contexts and body fit an unsigned long
 pub record IsShortRequest (r : RequestMsg) : Type 0 where
@@ -56,48 +54,25 @@ abbrev pub AskFailsAt : ℕ → ℕ → ℕ → Asked → World → ℕ → ℕ 
 AskFailsAt place host clock asked old before later =
     (group : Group) → slice_get old.groups place ≡ Some group → IsCountedWithin (ask group host clock asked).calls before later
 
--- the servant calls of a message's turn
-abbrev pub turn_calls : LinkTurn → ℕ
-turn_calls (Serves next lines calls) = calls
-turn_calls (Ends end) = 0
-
 -- a message was served: its lines were added to the report, and its servant calls counted
-pub record IsServing (turn : LinkTurn) (new : World) (report later_report : List ReportLine) (before later : ℕ) : Type 0 where
+pub record IsServing (turn : Linked) (new : World) (report later_report : List ReportLine) (before later : ℕ) : Type 0 where
   pub lines : List ReportLine
   pub calls : ℕ
-  pub is : turn ≡ Serves new lines calls
+  pub is : turn ≡ serving new lines calls
   pub printed : later_report ≡ report ++ lines
   pub counted : later ≡ before + calls
 
-abbrev pub Serving : LinkTurn → Result (Unit {0}) NoMemory → World → List ReportLine → List ReportLine → ℕ → ℕ → Type 0
+abbrev pub Serving : Linked → Result (Unit {0}) NoMemory → World → List ReportLine → List ReportLine → ℕ → ℕ → Type 0
 Serving turn (Ok u) new report later_report before later = IsServing turn new report later_report before later
-Serving turn (Err e) new report later_report before later = IsCountedWithin (turn_calls turn) before later
-
--- a message ended the link, and left all as it was
-pub record IsEnding (turn : LinkTurn) (end : LinkEnd) (old new : World) (report later_report : List ReportLine) (before later : ℕ) : Type 0 where
-  pub is : turn ≡ Ends end
-  pub world : new ≡ old
-  pub printed : later_report ≡ report
-  pub counted : later ≡ before
-
-abbrev pub Taking : LinkTurn → Result (Option LinkEnd) NoMemory → World → World → List ReportLine → List ReportLine → ℕ → ℕ → Type 0
-Taking turn (Ok None) old new report later_report before later = IsServing turn new report later_report before later
-Taking turn (Ok (Some end)) old new report later_report before later = IsEnding turn end old new report later_report before later
-Taking turn (Err e) old new report later_report before later = IsCountedWithin (turn_calls turn) before later
-
--- a fault of the link, and not want of memory
-abbrev pub IsOfLink : StreamFault → Type 0
-IsOfLink (stream_faults.Malformed why place) = Unit {0}
-IsOfLink (stream_faults.TooLarge size) = Unit {0}
-IsOfLink stream_faults.NoMemory = ⊥
+Serving turn (Err e) new report later_report before later = IsCountedWithin turn.calls before later
 
 -- a link went so, but for the lines of its end
-pub record IsEnded (l : Linked) (end : LinkEnd) (new : World) (report : List ReportLine) (before later : ℕ) : Type 0 where
+pub record IsEnded (l : Linked) (end : StreamEnd) (new : World) (report : List ReportLine) (before later : ℕ) : Type 0 where
   pub world : l.world ≡ new
   pub lines : l.lines ≡ report ++ end_lines end
   pub counted : later ≡ before + l.calls
 
-abbrev pub Ended : Linked → Result LinkEnd NoMemory → World → List ReportLine → ℕ → ℕ → Type 0
+abbrev pub Ended : Linked → Result StreamEnd NoMemory → World → List ReportLine → ℕ → ℕ → Type 0
 Ended l (Ok end) new report before later = IsEnded l end new report before later
 Ended l (Err e) new report before later = IsCountedWithin l.calls before later
 

@@ -11,7 +11,7 @@ use Rattle.fault_script.specs.Arguments.{call_words_of}
 use Rattle.fault_script.specs.declared.lines.LimitName.TheVariants as limits
 use Rattle.fault_script.specs.declared.lines.LineFault.{LineFault}
 use Rattle.fault_script.specs.declared.lines.LineFault.TheVariants.{Unknown, Again, Limit}
-use Rattle.fault_script.specs.declared.arguments.Said.{Said}
+use Rattle.fault_script.specs.declared.arguments.CallWords.{CallWords}
 use Rattle.ft_report.specs.declared.reports.ReportLine.{ReportLine}
 use Rattle.ft_report.specs.declared.reports.ReportLine.TheVariants as reports
 use Rattle.ft_report.specs.declared.reports.Role.TheVariants.{Primary}
@@ -175,11 +175,11 @@ abbrev pub version_of : Bool → Option Version
 version_of true = Some (record { 0 = 1 })
 version_of false = None
 
-abbrev pub key_of : World → Client → Said → Key
+abbrev pub key_of : World → Client → CallWords → Key
 key_of w c said =
     record { client = c.name; retention = retention_of c said.retention; expiration = expiration_of w said.expiration }
 
-abbrev pub attempt_of : World → Placed Client → Placed Group → List ℕ → Said → Attempt
+abbrev pub attempt_of : World → Placed Client → Placed Group → List ℕ → CallWords → Attempt
 attempt_of w c g op said = record {
   client = c.place;
   group = g.place;
@@ -197,26 +197,26 @@ call_opened c numbered =
 abbrev pub call_closed : Client → Client
 call_closed c = record { name = c.name; started = c.started; numbered = c.numbered; waiting = None }
 
-abbrev pub called : World → Placed Client → Placed Group → List ℕ → Said → World
+abbrev pub called : World → Placed Client → Placed Group → List ℕ → CallWords → World
 called w c g op said = record w {
   clients = slice_set w.clients c.place (call_opened c.value (numbered_after c.value said.retention));
   messages = w.messages ++ messages.Attempt (attempt_of w c g op said) ∷ [];
 }
 
-abbrev pub started : World → Placed Client → Placed Group → List ℕ → Said → Turn
+abbrev pub started : World → Placed Client → Placed Group → List ℕ → CallWords → Turn
 started w c g op said =
     judged (called w c g op said)
     (reports.Attempt (length w.messages + 1) c.value.name (record { 0 = g.value.host }) (c.value.started + 1) ∷ []) 0
 
-abbrev pub call_by : World → Placed Client → Placed Group → List ℕ → Said → Option ℕ → Turn
+abbrev pub call_by : World → Placed Client → Placed Group → List ℕ → CallWords → Option ℕ → Turn
 call_by w c g op said None = started w c g op said
 call_by w c g op said (Some id) = Goes w (reports.Busy c.value.name ∷ []) 0
 
-abbrev pub call_from : World → Option (Placed Client) → Placed Group → List ℕ → Said → Turn
+abbrev pub call_from : World → Option (Placed Client) → Placed Group → List ℕ → CallWords → Turn
 call_from w None g op said = Refused Unknown 0
 call_from w (Some c) g op said = call_by w c g op said c.value.waiting
 
-abbrev pub call_said : World → List ℕ → Placed Group → List ℕ → Result Said LineFault → Turn
+abbrev pub call_said : World → List ℕ → Placed Group → List ℕ → Result CallWords LineFault → Turn
 call_said w client g op (Err why) = Refused why 0
 call_said w client g op (Ok said) = call_from w (client_named w client) g op said
 

@@ -9,7 +9,7 @@ ghost use Rattle.ft_world.specs.declared.clients.Client.{Client};
 use crate::clients::Client;
 use crate::messages::{Attempt, Message};
 use crate::worlds::World;
-use fault_script::{LimitName, LineFault, Said, Words, call_words};
+use fault_script::{CallWords, LimitName, LineFault, Words, call_words};
 use ft_base::{HostNo, Key, Name, NoMemory, Request, Retention, Tick, Version};
 use ft_report::{ReportLine, ReportLines};
 use std::alloc::Global;
@@ -108,7 +108,7 @@ impl World {
     }
 
     // The key of a client's next request.
-    fn key_of(&self, client: &Client, said: &Said) -> Result<Key, NoMemory>
+    fn key_of(&self, client: &Client, said: &CallWords) -> Result<Key, NoMemory>
         requires clock { self.now.clock ≤ 2 ^ 63 }
         requires numbered { client.now.numbered + 1 < 2 ^ 31 }
         ensures { IfOk result (λ key. key ≡ key_of self.now client.now said.now) }
@@ -127,7 +127,7 @@ impl World {
         client: usize,
         group: usize,
         op: Name,
-        said: Said,
+        said: CallWords,
     ) -> Result<ReportLines, LineFault>
         requires client { client < length self.old.clients }
         requires group { group < length self.old.groups }
@@ -171,7 +171,7 @@ impl World {
         client: &Name,
         group: usize,
         op: Name,
-        said: Said,
+        said: CallWords,
     ) -> Result<ReportLines, LineFault>
         requires group { group < length self.old.groups }
         requires clock { self.old.clock ≤ 2 ^ 63 }

@@ -11,7 +11,7 @@ use crate::messages::{Attempt, Message, Reply};
 use crate::worlds::World;
 use fault_script::LineFault;
 use ft_base::{Decision, HostNo, Name, NoMemory, Outcome, Signature, Steps};
-use ft_report::{ReportLine, ReportLines, Shown, worth_of};
+use ft_report::{ReportLine, ReportLines, ReportOutcome, worth_of};
 use std::alloc::Global;
 use std::sync::ledger::Ledger;
 use sys_faults::Answer;
@@ -29,7 +29,7 @@ fn shown_outcome(
     alloc: Global,
     signature: Option<Signature>,
     outcome: Outcome,
-) -> Result<Shown, NoMemory>
+) -> Result<ReportOutcome, NoMemory>
     requires { IsAnswer signature (Answer.Done outcome) }
     ensures { IfOk result (λ printed. printed ≡ shown_outcome signature outcome) }
 {
@@ -40,9 +40,9 @@ fn shown_outcome(
                 None => None,
             };
             let worth = worth_of(alloc, gives, &value)?;
-            Ok(Shown::Value(worth))
+            Ok(ReportOutcome::Value(worth))
         }
-        Outcome::User(name) => Ok(Shown::User(name)),
+        Outcome::User(name) => Ok(ReportOutcome::User(name)),
     }
 }
 
@@ -52,20 +52,20 @@ fn shown_answer(
     group: &Name,
     signature: Option<Signature>,
     answer: Answer,
-) -> Result<Shown, NoMemory>
+) -> Result<ReportOutcome, NoMemory>
     requires { IsAnswer signature answer }
     ensures { IfOk result (λ printed. printed ≡ shown group.now signature answer) }
 {
     match answer {
         Answer::Done(outcome) => shown_outcome(alloc, signature, outcome),
-        Answer::System(fault) => Ok(Shown::System(fault)),
+        Answer::System(fault) => Ok(ReportOutcome::System(fault)),
         Answer::Forward(version) => {
             let group = group.copy(alloc)?;
-            Ok(Shown::Forward { group, version })
+            Ok(ReportOutcome::Forward { group, version })
         }
         Answer::ForwardPerm(version) => {
             let group = group.copy(alloc)?;
-            Ok(Shown::ForwardPerm { group, version })
+            Ok(ReportOutcome::ForwardPerm { group, version })
         }
     }
 }
@@ -74,7 +74,7 @@ fn done_report(
     alloc: Global,
     client: &Name,
     call: u32,
-    shown: Shown,
+    shown: ReportOutcome,
 ) -> Result<ReportLines, NoMemory>
     ensures { IfOk result (λ report. report ≡ ReportLine.Done client.now call shown ∷ []) }
 {
@@ -102,7 +102,7 @@ fn served_report(
     served: Served,
     message: u64,
     id: u32,
-    shown: &Shown,
+    shown: &ReportOutcome,
 ) -> Result<ReportLines, NoMemory>
     ensures { IfOk result (λ report. report ≡
         ReportLine.At served.host served.group served.decision

@@ -8,38 +8,27 @@ ghost use Rattle.group_core.specs.Asked.{asked_of};
 ghost use Rattle.group_core.specs.Group.{Group, IsAnswer, signature_asked};
 ghost use Rattle.ft_world.specs.Printed.{gives_of};
 ghost use Rattle.ft_world.specs.World.{World, first_cause, judged, placed, total_causes, totals_of};
-ghost use Rattle.ft_world.specs.Links.{asked_at, end_lines, fault_end, group_keyed, inject_line, is_cut, is_here, link_of, located, malformed_lines, message_error, message_turn, number_in, port_answer, ports, reference, reply_lines, request_turn, rest_end};
-ghost use Rattle.ft_world.specs.Serving.{Ended, HasName, IsOfLink, IsShortMessage, IsShortRequest, Links, Serving, Taking};
+ghost use Rattle.giop_stream.specs.Spelled.{IsSpelled};
+ghost use Rattle.ft_world.specs.Links.{asked_at, end_lines, group_keyed, inject_line, is_cut, is_here, link_of, located, malformed_lines, message_error, message_turn, port_answer, ports, reference, reply_lines, request_turn};
+ghost use Rattle.ft_world.specs.Serving.{Ended, HasName, IsShortMessage, IsShortRequest, Links, Serving};
 ghost use Rattle.ft_world.specs.Sound.{AnsweredAfter, Did, IsPlace};
 
 use crate::calls::ENTRY_LIMIT;
 use crate::worlds::World;
-use byteorder::{BigEndian, ByteOrder};
 use cdr_codec::Order;
 use fault_script::{LimitName, LineFault};
 use ft_base::{
     Bytes, GroupId, HostNo, Members, Name, NoMemory, Outcome, Par, Signature, Steps, Version, View,
 };
 use ft_report::{ReportLine, ReportLines};
-use giop_messages::{Message, RequestMsg, Why};
-use giop_stream::{Framer, StreamFault};
+use giop_messages::{Message, RequestMsg, Why, messages_are_within};
+use giop_stream::{Session, SessionStep, StreamEnd};
 use group_core::asked_of;
 use host_server::{PortAnswer, locate_reply_bytes, message_error_bytes, reply_bytes};
-use iogr_reference::{Ior, Ports, ref_of};
+use iogr_reference::{FIRST_PORT, Ior, Ports, group_of_key, ref_of};
 use std::alloc::Global;
 use std::sync::ledger::Ledger;
 use sys_faults::Answer;
-
-/// How a link ends.
-#[derive(Drop)]
-pub(crate) enum LinkEnd {
-    /// In order: at the end of its bytes, or where the peer closes it.
-    Closed,
-    /// At bytes that are no message, or no message to a server.
-    Malformed { why: Why, place: u32 },
-    /// At a message of so many bytes.
-    TooLarge(u64),
-}
 
 // A request that may wait for a reply.
 #[derive(Clone, Copy)]
@@ -50,28 +39,14 @@ struct Asking {
     order: Order,
 }
 
-// The number of the group that an object key names.
-fn number_in(key: &[u8]) -> Option<u64>
-    ensures { result ≡ number_in key.now }
-{
-    if key.len() != 12 {
-        return None;
-    }
-    if &key[..4] == b"FTOG".as_slice() {
-        Some(BigEndian::read_u64(&key[4..]))
-    } else {
-        None
-    }
-}
-
-// The port of each host number.
+// The port of each host number up to this one.
 #[tactic(auto, unfolding(crate::specs::Links::ports))]
-fn ports(alloc: Global) -> Result<Ports, NoMemory>
-    ensures { IfOk result (λ ports'. ports' ≡ ports) }
+fn ports(alloc: Global, host: HostNo) -> Result<Ports, NoMemory>
+    ensures { IfOk result (λ ports'. ports' ≡ ports host.0) }
 {
     let mut all = Vec::new(alloc);
-    for host in 0..256u16 {
-        all.push(2000 + host)?;
+    for number in 0..u16::from(host.0) + 1 {
+        all.push(FIRST_PORT + number)?;
     }
     Ok(Ports::from_vec(all))
 }
@@ -85,7 +60,7 @@ fn reference(alloc: Global, place: usize, host: HostNo) -> Result<Ior, NoMemory>
         Ok(kind) => kind,
         Err(_) => return Err(NoMemory),
     };
-    let ports = ports(alloc)?;
+    let ports = ports(alloc, host)?;
     let mut members = Members::new();
     members.join(host);
     let view = View {
@@ -239,52 +214,16 @@ fn push_malformed(
 }
 
 #[tactic(auto, using(crate::proofs::ServingLemmas::one_before))]
-fn push_end(alloc: Global, end: LinkEnd, report: &mut ReportLines) -> Result<(), NoMemory>
+fn push_end(alloc: Global, end: StreamEnd, report: &mut ReportLines) -> Result<(), NoMemory>
     ensures { OnOk result (report.new ≡ report.old ++ end_lines end) }
 {
     match end {
-        LinkEnd::Closed => report.push(ReportLine::LinkClosed),
-        LinkEnd::Malformed { why, place } => push_malformed(alloc, why, place, report),
-        LinkEnd::TooLarge(size) => {
+        StreamEnd::Closed => report.push(ReportLine::LinkClosed),
+        StreamEnd::Malformed { why, place } => push_malformed(alloc, why, place, report),
+        StreamEnd::TooLarge(size) => {
             push_error(alloc, report)?;
             report.push(ReportLine::LinkTooLarge(size))
         }
-    }
-}
-
-// The end of a link behind its last whole message: so many bytes are left.
-fn rest_end(count: u32) -> LinkEnd
-    ensures { result ≡ rest_end count }
-{
-    if count == 0 {
-        LinkEnd::Closed
-    } else {
-        LinkEnd::Malformed {
-            why: Why::Cut,
-            place: count,
-        }
-    }
-}
-
-// The end of a link at a fault of its bytes.
-fn fault_end(fault: StreamFault) -> Result<LinkEnd, NoMemory>
-    ensures end { IfOk result (λ end. end ≡ fault_end fault) }
-    ensures link { OnOk result (IsOfLink fault) }
-{
-    match fault {
-        StreamFault::Malformed { why, place } => Ok(LinkEnd::Malformed { why, place }),
-        StreamFault::TooLarge(size) => Ok(LinkEnd::TooLarge(size)),
-        StreamFault::NoMemory => Err(NoMemory),
-    }
-}
-
-// A reply came, which no client sends.
-fn reply_end() -> LinkEnd
-    ensures { result ≡ LinkEnd.Malformed Why.Kind 7 }
-{
-    LinkEnd::Malformed {
-        why: Why::Kind,
-        place: 7,
     }
 }
 
@@ -292,8 +231,8 @@ impl World {
     fn keyed_place(&self, key: &Bytes) -> Option<usize>
         ensures { IsPlace (group_keyed self.now key.now) self.now.groups result }
     {
-        match number_in(key.bytes()) {
-            Some(number) => self.numbered_place(number),
+        match group_of_key(key.bytes()) {
+            Some(group) => self.numbered_place(group.0),
             None => None,
         }
     }
@@ -416,7 +355,7 @@ impl World {
         push_located(self.alloc(), id, order, here, report)
     }
 
-    // What a host does with a message of its link: the end of the link, where the message ends it.
+    // What a host does with a message that it serves.
     fn take_message<L: Ledger>(
         &mut self,
         host: HostNo,
@@ -424,31 +363,18 @@ impl World {
         order: Order,
         report: &mut ReportLines,
         steps: &mut Steps<L>,
-    ) -> Result<Option<LinkEnd>, NoMemory>
+    ) -> Result<(), NoMemory>
         requires { IsShortMessage message }
-        ensures did { Taking (message_turn self.old host.0 message order)
-            result self.old self.new report.old report.new steps.old steps.new }
+        ensures did { Serving (message_turn self.old host.0 message order)
+            result self.new report.old report.new steps.old steps.new }
         ensures clock { OnOk result (self.new.clock ≡ self.old.clock) }
     {
         match message {
-            Message::Request(request) => {
-                match self.link_request(host, request, order, report, steps) {
-                    Ok(()) => Ok(None),
-                    Err(NoMemory) => Err(NoMemory),
-                }
-            }
-            Message::LocateRequest(id, key) => {
-                match self.locate(host, id, &key, order, report) {
-                    Ok(()) => Ok(None),
-                    Err(NoMemory) => Err(NoMemory),
-                }
-            }
-            Message::Cancel(_) => Ok(None),
-            Message::Fragment(_, _) => Ok(None),
-            Message::Reply(_) => Ok(Some(reply_end())),
-            Message::LocateReply(_, _) => Ok(Some(reply_end())),
-            Message::CloseConnection => Ok(Some(LinkEnd::Closed)),
-            Message::MessageError => Ok(Some(LinkEnd::Closed)),
+            Message::Request(request) => self.link_request(host, request, order, report, steps),
+            Message::LocateRequest(id, key) => self.locate(host, id, &key, order, report),
+            Message::Cancel(_) | Message::Fragment(_, _) => Ok(()),
+            Message::Reply(_) | Message::LocateReply(_, _) => Ok(()),
+            Message::CloseConnection | Message::MessageError => Ok(()),
         }
     }
 
@@ -459,42 +385,45 @@ impl World {
         received: (Message, Order),
         report: &mut ReportLines,
         steps: &mut Steps<L>,
-    ) -> Result<Option<LinkEnd>, NoMemory>
-        requires { IsShortMessage received.0 }
-        ensures did { Taking (message_turn self.old host.0 received.0 received.1)
-            result self.old self.new report.old report.new steps.old steps.new }
+    ) -> Result<(), NoMemory>
+        requires { IsSpelled received }
+        ensures did { Serving (message_turn self.old host.0 received.0 received.1)
+            result self.new report.old report.new steps.old steps.new }
         ensures clock { OnOk result (self.new.clock ≡ self.old.clock) }
     {
+        messages_are_within();
         let (message, order) = received;
         self.take_message(host, message, order, report, steps)
     }
 
-    // Takes the messages in these bytes, up to the end of the link.
+    // Serves the session of a link with these bytes.
     fn session<L: Ledger>(
         &mut self,
         host: HostNo,
         bytes: &Bytes,
         report: &mut ReportLines,
         steps: &mut Steps<L>,
-    ) -> Result<LinkEnd, NoMemory>
+    ) -> Result<StreamEnd, NoMemory>
         requires { report.old ≡ [] }
         ensures did { Ended (link_of self.old host.0 bytes.now) result self.new report.new steps.old steps.new }
         ensures clock { OnOk result (self.new.clock ≡ self.old.clock) }
     {
-        let mut framer = Framer::new(self.alloc());
-        match framer.feed(bytes.bytes()) {
+        let mut session = Session::new(self.alloc());
+        match session.feed(bytes.bytes()) {
             Ok(()) => {}
             Err(NoMemory) => return Err(NoMemory),
         }
         'messages: loop {
-            match framer.next() {
-                Ok(Some(received)) => match self.receive(host, received, report, steps) {
-                    Ok(None) => {}
-                    Ok(Some(end)) => return Ok(end),
-                    Err(NoMemory) => return Err(NoMemory),
-                },
-                Ok(None) => return Ok(rest_end(framer.unfinished())),
-                Err(fault) => return fault_end(fault),
+            match session.next() {
+                Ok(SessionStep::Serve(received)) => {
+                    match self.receive(host, received, report, steps) {
+                        Ok(()) => {}
+                        Err(NoMemory) => return Err(NoMemory),
+                    }
+                }
+                Ok(SessionStep::Wait) => return Ok(session.at_end()),
+                Ok(SessionStep::End(end)) => return Ok(end),
+                Err(NoMemory) => return Err(NoMemory),
             }
         }
     }

@@ -1,7 +1,7 @@
 ghost use Rattle.std.specs.Prelude.{◌≡◌, IfOk};
 
 use ft_base::{HostNo, NoMemory, Request, Version};
-use ft_report::Shown;
+use ft_report::ReportOutcome;
 use std::alloc::Global;
 
 /// A client's attempt of an invocation, on its way to a group's host.
@@ -27,7 +27,7 @@ pub struct Reply {
     pub host: HostNo,
     /// The id of the request that it answers.
     pub id: u32,
-    pub shown: Shown,
+    pub shown: ReportOutcome,
 }
 
 /// A message that was sent. It can be delivered any number of times.

@@ -18,6 +18,10 @@ message_error = refl
 cancel : message_in (71 ∷ 73 ∷ 79 ∷ 80 ∷ 1 ∷ 2 ∷ 1 ∷ 2 ∷ 4 ∷ 0 ∷ 0 ∷ 0 ∷ 7 ∷ 1 ∷ 0 ∷ 0 ∷ 5 ∷ []) ≡ Ok (messages.Cancel 263, Little)
 cancel = refl
 
+-- bits 2 to 7 of the flags say nothing
+odd_flags : message_in (71 ∷ 73 ∷ 79 ∷ 80 ∷ 1 ∷ 2 ∷ 252 ∷ 6 ∷ 0 ∷ 0 ∷ 0 ∷ 0 ∷ []) ≡ Ok (messages.MessageError, Big)
+odd_flags = refl
+
 -- the body begins at 48, behind four bytes of padding
 abbrev the_request : Message
 the_request = messages.Request (record { id = 1; flags = 3; key = 9 ∷ []; op = 97 ∷ []; contexts = []; body = record { order = Big; align = 0; bytes = 5 ∷ [] } })
@@ -46,8 +50,7 @@ request_writable = record {
     key = lit< tt;
     no_zero = refl;
     op = lit< tt;
-    count = lit< tt;
-    contents = All-nil (λ (c : Context). length c.content < 2 ^ 32);
+    contexts = record { count = lit< tt; contents = All-nil (λ (c : Context). length c.content < 2 ^ 32) };
     body = record { ordered = refl; aligned = refl; short = lit< tt };
   };
   sized = omega arith;

@@ -1,14 +1,16 @@
 -- What is read of bytes is a message that they spell, and each message that they spell is read.
 use Rattle.std.proofs.Common.{◌≡◌, ℕ, ◌+◌, ◌≤◌, Bool, true, false, cond, ltb, List, ◌++◌, length, take, drop, Result, Ok, Err, refl, sym, ap, subst, ◌∙◌, append_assoc, length-append, length-take-le, length-drop, take-append-drop, ltb-false, le-ltb, arith, Option, Some, None, IfOk}
+use Rattle.std.proofs.Math.Seq.{take-length}
 use Rattle.std.proofs.lemmas.List.{take_at, drop_at}
 use Rattle.cdr_codec.specs.declared.orders.Order.{Order}
 use Rattle.cdr_codec.specs.declared.orders.Order.TheVariants.{Big}
 use Rattle.cdr_codec.specs.declared.bodies.Raw.{Raw}
-use Rattle.cdr_codec.specs.Reading.{Reader, reader_at, Fault, ◌>>=◌}
-use Rattle.cdr_codec.specs.Formats.{Format}
-use Rattle.cdr_codec.specs.Calls.{OnFault, Refuses}
+use Rattle.cdr_codec.specs.Reading.{Reader, reader_at, Fault, fault_at, ◌>>=◌}
+use Rattle.cdr_codec.specs.Formats.{Format, judge}
+use Rattle.cdr_codec.specs.Orders.{order_of}
+use Rattle.cdr_codec.specs.Calls.{FailsIn, Tells, OnFault, Refuses}
 use Rattle.cdr_codec.specs.Laws.{IsCodec}
-use Rattle.cdr_codec.proofs.Steps.{done, bind_ok, bind_goes, ok_is, err_ok}
+use Rattle.cdr_codec.proofs.Steps.{done, with_reader, bind_ok, bind_goes, ok_is, err_ok}
 use Rattle.giop_messages.specs.declared.faults.Why.{Why}
 use Rattle.giop_messages.specs.declared.faults.Why.TheVariants as causes
 use Rattle.giop_messages.specs.declared.heads.Kind.{Kind}
@@ -17,10 +19,10 @@ use Rattle.giop_messages.specs.declared.heads.Head.{Head}
 use Rattle.giop_messages.specs.declared.messages.Message.{Message}
 use Rattle.giop_messages.specs.declared.messages.Message.TheVariants as messages
 use Rattle.giop_messages.specs.declared.faults.ReadFault.{ReadFault}
-use Rattle.giop_messages.specs.Faults.{read_fault, FailsIn, Tells}
-use Rattle.giop_messages.specs.Heads.{order_in, head, header, head_in}
+use Rattle.giop_messages.specs.Faults.{read_fault}
+use Rattle.giop_messages.specs.Heads.{flags_fit, if_flags_fit, head, header, head_in}
 use Rattle.giop_messages.specs.Fields.{request_id, request_head, reply_head, locate_request, locate_reply}
-use Rattle.giop_messages.specs.Messages.{kind_in, head_of_request, head_of_reply, SpellsBody, SpellsWithBody, SpellsFields, SpellsPayload, Spells, body_at, request_from, reply_from, payload_at, cut, payload_reader, behind, message_in}
+use Rattle.giop_messages.specs.Messages.{kind_in, head_of_request, head_of_reply, SpellsBody, SpellsWithBody, SpellsFields, SpellsPayload, Spells, body_at, request_from, reply_from, payload_at, fields_in, cut, behind, message_in}
 use Rattle.giop_messages.specs.Laws.{SpellsHead}
 use Rattle.giop_messages.proofs.Codecs.{head_codec, header_codec, request_id_codec, request_head_codec, reply_head_codec, locate_request_codec, locate_reply_codec}
 use Rattle.giop_messages.proofs.Lengths.{header_long}
@@ -111,14 +113,18 @@ unless_cut : {X : Type 0} (b : Bool) (wrong : Fault Why) (read : Result X (Fault
 unless_cut true wrong read x e = absurd (err_ok x wrong e)
 unless_cut false wrong read x e = (refl, e)
 
-goes_whole : {X : Type 0} (b : Bool) (wrong : Fault Why) (read : Result X (Fault Why)) (x : X) → b ≡ false → read ≡ Ok x → cond b (Err wrong) read ≡ Ok x
-goes_whole b wrong read x whole e = rw whole e
+goes_on : {X : Type 0} (b : Bool) (wrong : Fault Why) (read x : Result X (Fault Why)) → b ≡ false → read ≡ x → cond b (Err wrong) read ≡ x
+goes_on b wrong read x whole e = rw whole e
 
 abbrev with_order : Message → Order → Message × Order
 with_order m order = (m, order)
 
 abbrev head_with : ℕ → Kind → ℕ → Head
 head_with flags kind size = record { flags = flags; kind = kind; size = size }
+
+-- what stands behind the header
+abbrev payload_reader : Head → List ℕ → Reader
+payload_reader h bytes = reader_at (order_of h.flags) 12 (take h.size (drop 12 bytes))
 
 found_behind : (bytes front rest : List ℕ) (h : Head) (m : Message) (order : Order) → bytes ≡ front ++ rest → header.Spelled Big 0 h front
     → behind bytes h ≡ Ok (with_order m order) → Spells bytes order m
@@ -127,10 +133,10 @@ found_behind bytes front rest h m order is spelled e =
     let whole = unless_cut (ltb (length bytes) (12 + h.size)) (cut bytes) _ (with_order m order) e in
     let enough : 12 + h.size ≤ length bytes = ltb-false _ _ whole.0 in
     let payload = take h.size (drop 12 bytes) in
-    let b = bind_ok (payload_at h.kind (payload_reader h bytes)) (λ m. done (with_order m (order_in h.flags))) (with_order m order) whole.1 in
-    let same = ok_is (with_order b.0 (order_in h.flags)) (with_order m order) b.2 in
-    let i = subst (λ (m : Message). IsIn h.kind (order_in h.flags) m payload) (ap (λ (p : Message × Order). p.0) same) (payload_found h.kind (order_in h.flags) payload b.0 b.1) in
-    let order-is : order ≡ order_in h.flags = sym (ap (λ (p : Message × Order). p.1) same) in
+    let b = bind_ok (payload_at h.kind (payload_reader h bytes)) (λ m. done (with_order m (order_of h.flags))) (with_order m order) whole.1 in
+    let same = ok_is (with_order b.0 (order_of h.flags)) (with_order m order) b.2 in
+    let i = subst (λ (m : Message). IsIn h.kind (order_of h.flags) m payload) (ap (λ (p : Message × Order). p.0) same) (payload_found h.kind (order_of h.flags) payload b.0 b.1) in
+    let order-is : order ≡ order_of h.flags = sym (ap (λ (p : Message × Order). p.1) same) in
     let sized : length payload ≡ h.size = length-take-le h.size (drop 12 bytes) (omega (arith, length-drop 12 bytes)) in
     let left : drop 12 bytes ≡ rest = ap (drop 12) is ∙ drop_at front rest 12 twelve in
     record {
@@ -166,14 +172,14 @@ message_again bytes m order s =
     ∙ ap (take (length s.payload)) (drop_at s.front (s.payload ++ s.more) 12 twelve)
     ∙ take_at s.payload s.more (length s.payload) refl in
     let fields : payload_at (kind_in m) (payload_reader h bytes) ≡ Ok m =
-    ap (λ (l : List ℕ). payload_at (kind_in m) (reader_at (order_in s.flags) 12 l)) payload-is
-    ∙ payload_again m (order_in s.flags) s.payload (subst (λ (o : Order). SpellsPayload o m s.payload) s.ordered s.fields_spelled) in
+    ap (λ (l : List ℕ). payload_at (kind_in m) (reader_at (order_of s.flags) 12 l)) payload-is
+    ∙ payload_again m (order_of s.flags) s.payload (subst (λ (o : Order). SpellsPayload o m s.payload) s.ordered s.fields_spelled) in
     let behind-is : behind bytes h ≡ Ok (with_order m order) =
-    goes_whole (ltb (length bytes) (12 + length s.payload)) (cut bytes) _ (with_order m order) (le-ltb _ _ (omega arith))
-    (bind_goes (payload_at (kind_in m) (payload_reader h bytes)) (λ m. done (with_order m (order_in s.flags))) _ _ fields (ap (λ (o : Order). done (with_order m o)) (sym s.ordered))) in
+    goes_on (ltb (length bytes) (12 + length s.payload)) (cut bytes) _ _ (le-ltb _ _ (omega arith))
+    (bind_goes (payload_at (kind_in m) (payload_reader h bytes)) (λ m. done (with_order m (order_of s.flags))) _ _ fields (ap (λ (o : Order). done (with_order m o)) (sym s.ordered))) in
     let read : header.read (reader_at Big 0 bytes) ≡ Ok (h, reader_at Big (0 + length s.front) (s.payload ++ s.more)) =
     ap (λ (l : List ℕ). header.read (reader_at Big 0 l)) is ∙ header_codec.again Big 0 h s.front (s.payload ++ s.more) s.head_spelled in
-    goes_whole (ltb (length bytes) 12) (cut bytes) _ (with_order m order) (le-ltb _ _ (omega arith))
+    goes_on (ltb (length bytes) 12) (cut bytes) _ _ (le-ltb _ _ (omega arith))
     (bind_goes (header.read (reader_at Big 0 bytes)) (λ h. behind bytes h.0) _ _ read behind-is)
 
 -- bytes spell one message at most
@@ -195,9 +201,33 @@ head_again bytes h s =
     bind_goes (head.read (reader_at Big 0 bytes)) (λ h. done h.0) _ _
     (ap (λ (l : List ℕ). head.read (reader_at Big 0 l)) s.is ∙ head_codec.again Big 0 h s.front s.more s.spelled) refl
 
+-- ---- a header that was read already
+
+fits : (b : Bool) (h : Head) (after : Reader) (wrong : Fault Why) → b ≡ true
+    → judge (cond {A = Option Head} b (Some h) None) after wrong ≡ Ok (h, after)
+fits b h after wrong e = rw e refl
+
+header_read : (r : Reader) (h : Head) (after : Reader) → head.read r ≡ Ok (h, after) → flags_fit h ≡ true → header.read r ≡ Ok (h, after)
+header_read r h after e fit = bind_goes (head.read r) (λ x. judge (if_flags_fit x.0) x.1 (fault_at causes.Flags (r.place + 6))) _ _ e
+    (fits (flags_fit h) h after (fault_at causes.Flags (r.place + 6)) fit)
+
+-- a message is its header and the fields behind it
+pub fields_behind : (bytes payload : List ℕ) (h : Head) → head_in bytes ≡ Ok h → flags_fit h ≡ true → drop 12 bytes ≡ payload → h.size ≡ length payload
+    → 12 ≤ length bytes → message_in bytes ≡ fields_in h payload
+fields_behind bytes payload h e fit left sized long =
+    let b = bind_ok (head.read (reader_at Big 0 bytes)) (λ h. done h.0) h e in
+    let head-is : head.read (reader_at Big 0 bytes) ≡ Ok (h, b.0.1) =
+    b.1 ∙ ap (λ (x : Head). done (with_reader x b.0.1)) (ok_is b.0.0 h b.2) in
+    let read = header_read (reader_at Big 0 bytes) h b.0.1 head-is fit in
+    let whole : length bytes ≡ 12 + h.size = omega (arith, length-drop 12 bytes, ap length left, sized, long) in
+    let payload-is : take h.size (drop 12 bytes) ≡ payload = ap (take h.size) left ∙ ap (λ (n : ℕ). take n payload) sized ∙ take-length payload in
+    goes_on (ltb (length bytes) 12) (cut bytes) _ _ (le-ltb _ _ long)
+    (bind_goes (header.read (reader_at Big 0 bytes)) (λ h. behind bytes h.0) _ _ read
+    (goes_on (ltb (length bytes) (12 + h.size)) (cut bytes) _ _ (le-ltb _ _ (omega (arith, whole))) (ap (fields_in h) payload-is)))
+
 -- ---- a call's answers
 
-pub is_found : (bytes : List ℕ) (result : Result (Message × Order) ReadFault) → Tells (λ m. m) result (message_in bytes) → IfOk result (λ m. Spells bytes m.1 m.0)
+pub is_found : (bytes : List ℕ) (result : Result (Message × Order) ReadFault) → Tells (λ m. m) read_fault result (message_in bytes) → IfOk result (λ m. Spells bytes m.1 m.0)
 is_found bytes (Ok m) h = message_found bytes m.0 m.1 h
 is_found bytes (Err e) h = tt
 
@@ -205,7 +235,7 @@ nothing_spelled : (bytes : List ℕ) (o : Option (Fault Why)) → FailsIn o (mes
 nothing_spelled bytes None h = tt
 nothing_spelled bytes (Some wrong) h = λ m order s. err_ok (with_order m order) wrong (sym h ∙ message_again bytes m order s)
 
-pub is_refused : (bytes : List ℕ) (result : Result (Message × Order) ReadFault) → Tells (λ m. m) result (message_in bytes)
+pub is_refused : (bytes : List ℕ) (result : Result (Message × Order) ReadFault) → Tells (λ m. m) read_fault result (message_in bytes)
     → Refuses read_fault result ((m : Message) (order : Order) → Spells bytes order m → ⊥)
 is_refused bytes (Ok m) h = tt
 is_refused bytes (Err e) h = nothing_spelled bytes (read_fault e) h

@@ -1,16 +1,17 @@
 -- What is written spells its message, and is read back.
-use Rattle.std.proofs.Common.{◌≡◌, ℕ, ◌+◌, ◌<◌, ◌^◌, true, ltb, List, [], ◌∷◌, ◌++◌, length, Some, Result, Ok, Err, IfOk, refl, sym, ap, subst, ◌∙◌, append-nil, length-append, lt-ltb, lit<, arith}
-use Rattle.std.specs.List.{All, AllByRecursion}
+use Rattle.std.proofs.Common.{◌≡◌, ℕ, ◌+◌, ◌<◌, ◌^◌, ◌==◌, Bool, true, false, cond, Option, List, [], ◌∷◌, ◌++◌, length, Some, Result, Ok, Err, IfOk, refl, sym, ap, subst, ◌∙◌, append-nil, length-append, lit<, arith}
+use Rattle.std.specs.List.{AllByRecursion, find}
 use Rattle.std.proofs.lemmas.List.Elements.{recursion_from_All}
 use Rattle.ft_base.specs.declared.memory.NoMemory.{NoMemory}
 use Rattle.cdr_codec.specs.declared.orders.Order.{Order}
 use Rattle.cdr_codec.specs.declared.orders.Order.TheVariants.{Big, Little}
 use Rattle.cdr_codec.specs.declared.bodies.Raw.{Raw}
+use Rattle.cdr_codec.specs.Orders.{order_sign, order_of}
 use Rattle.cdr_codec.specs.Formats.{Format}
 use Rattle.cdr_codec.specs.Laws.{IsCodec}
-use Rattle.cdr_codec.specs.Encapsulations.{order_sign}
 use Rattle.cdr_codec.proofs.ValueLaws.{text_valid}
 use Rattle.ft_contexts.specs.declared.lists.Context.{Context}
+use Rattle.ft_contexts.specs.Lists.{context}
 use Rattle.giop_messages.specs.declared.faults.Why.{Why}
 use Rattle.giop_messages.specs.declared.faults.Why.TheVariants as causes
 use Rattle.giop_messages.specs.declared.heads.Kind.{Kind}
@@ -20,14 +21,14 @@ use Rattle.giop_messages.specs.declared.messages.Message.{Message}
 use Rattle.giop_messages.specs.declared.messages.Message.TheVariants as messages
 use Rattle.giop_messages.specs.declared.messages.RequestMsg.{RequestMsg}
 use Rattle.giop_messages.specs.declared.messages.ReplyMsg.{ReplyMsg}
-use Rattle.giop_messages.specs.Heads.{kind, order_in, head, if_flags_fit, header}
+use Rattle.giop_messages.specs.Heads.{kind, head, if_flags_fit, head_in, header}
 use Rattle.giop_messages.specs.Addresses.{address}
-use Rattle.giop_messages.specs.Fields.{request_id, context, contexts, reserved, request_head, below, reply_head, locate_request, locate_reply}
+use Rattle.giop_messages.specs.Fields.{request_id, reserved, contexts, request_head, reply_statuses, reply_head, locate_request, locate_statuses, locate_reply}
 use Rattle.giop_messages.specs.Messages.{kind_in, head_of_request, head_of_reply, SpellsWithBody, SpellsFields, SpellsPayload, Spells, message_in}
-use Rattle.giop_messages.specs.Writing.{padded_body, with_body, written_payload, written_message, IsBodyFor, IsRequest, IsReply, HasFields, Writable, IsNumberedRequest, IsNumberedReply, IsNumbered}
-use Rattle.giop_messages.proofs.Codecs.{header_codec, request_id_codec, request_head_codec, reply_head_codec, locate_request_codec, locate_reply_codec}
+use Rattle.giop_messages.specs.Writing.{padded_body, with_body, written_payload, whole_head, written_message, AreContexts, IsBodyFor, IsRequest, IsAmong, IsReply, HasFields, Writable, AreNumbered, IsNumberedRequest, IsNumberedReply, IsNumbered}
+use Rattle.giop_messages.proofs.Codecs.{head_codec, header_codec, request_id_codec, request_head_codec, reply_head_codec, locate_request_codec, locate_reply_codec}
 use Rattle.giop_messages.proofs.BodyLaws.{body_spells}
-use Rattle.giop_messages.proofs.MessageLaws.{message_again}
+use Rattle.giop_messages.proofs.MessageLaws.{head_again, message_again}
 
 -- ---- what has a spelling
 
@@ -36,36 +37,55 @@ each_valid : (cs : List Context) → AllByRecursion (λ (c : Context). c.id < 2 
 each_valid [] ids contents = tt
 each_valid (c ∷ cs) ids contents = ((ids.0, contents.0), each_valid cs ids.1 contents.1)
 
-contexts_valid : (cs : List Context) → length cs < 2 ^ 32 → All (λ (c : Context). c.id < 2 ^ 32) cs → All (λ (c : Context). length c.content < 2 ^ 32) cs
-    → contexts.Valid cs
-contexts_valid cs count ids contents =
-    (count, each_valid cs (recursion_from_All (λ (c : Context). c.id < 2 ^ 32) cs ids) (recursion_from_All (λ (c : Context). length c.content < 2 ^ 32) cs contents))
+one_of : (b : Bool) (x n : ℕ) (o : Option ℕ) → x < 2 ^ 32 → (o ≡ Some n → n < 2 ^ 32) → cond {A = Option ℕ} b (Some x) o ≡ Some n → n < 2 ^ 32
+one_of true x n o small rest h = let same : x ≡ n = cc in subst (λ (m : ℕ). m < 2 ^ 32) same small
+one_of false x n o small rest h = rest h
 
-reserved_valid : reserved.Valid (tt, (tt, tt))
-reserved_valid = ((lit< tt, refl), ((lit< tt, refl), (lit< tt, refl)))
+-- a number that stands in a list of small ones is small
+found_below : (xs : List ℕ) (n : ℕ) → AllByRecursion (λ (x : ℕ). x < 2 ^ 32) xs → IsAmong xs n → n < 2 ^ 32
+found_below [] n small h = absurd cc
+found_below (x ∷ xs) n small h = one_of (x == n) x n (find (λ (y : ℕ). y == n) xs) small.0 (found_below xs n small.1) h
+
+contexts_valid : (cs : List Context) → AreContexts cs → AreNumbered cs → contexts.Valid cs
+contexts_valid cs h ids =
+    (h.count, each_valid cs (recursion_from_All (λ (c : Context). c.id < 2 ^ 32) cs ids) (recursion_from_All (λ (c : Context). length c.content < 2 ^ 32) cs h.contents))
+
+reserved_valid : reserved.Valid tt
+reserved_valid = (lit< tt, refl)
 
 address_valid : (key : List ℕ) → length key < 2 ^ 32 → address.Valid key
 address_valid key h = ((lit< tt, (h, refl)), refl)
 
-below_is : (limit n : ℕ) → n < limit → below limit n ≡ Some n
-below_is limit n h = let e : ltb n limit ≡ true = lt-ltb _ _ h in rw e refl
-
 request_valid : (order : Order) (r : RequestMsg) → IsNumberedRequest r → IsRequest order r → request_head.Valid (head_of_request r)
-request_valid order r n h =
-    (n.id, (n.flags, (reserved_valid, (address_valid r.key h.key, (text_valid r.op h.no_zero h.op, contexts_valid r.contexts h.count n.contexts h.contents)))))
+request_valid order r n h = (
+  n.id,
+  (
+    n.flags,
+    (
+      reserved_valid,
+      (
+        reserved_valid,
+        (
+          reserved_valid,
+          (address_valid r.key h.key, (text_valid r.op h.no_zero h.op, (contexts_valid r.contexts h.contexts n.contexts, refl))),
+        ),
+      ),
+    ),
+  ),
+)
+
+-- each status of a Reply fits an unsigned long
+status_fits : (n : ℕ) → IsAmong reply_statuses n → n < 2 ^ 32
+status_fits n h = found_below reply_statuses n (lit< tt, (lit< tt, (lit< tt, (lit< tt, (lit< tt, (lit< tt, tt)))))) h
 
 reply_valid : (order : Order) (r : ReplyMsg) → IsNumberedReply r → IsReply order r → reply_head.Valid (head_of_reply r)
-reply_valid order r n h =
-    let small : r.status < 2 ^ 32 = omega (arith, h.status) in
-    (n.id, ((small, below_is 6 r.status h.status), contexts_valid r.contexts h.count n.contexts h.contents))
+reply_valid order r n h = (n.id, ((status_fits r.status h.status, h.status), (contexts_valid r.contexts h.contexts n.contexts, refl)))
 
 locate_request_valid : (id : ℕ) (key : List ℕ) → id < 2 ^ 32 → length key < 2 ^ 32 → locate_request.Valid (id, key)
 locate_request_valid id key n h = (n, address_valid key h)
 
-locate_reply_valid : (id status : ℕ) → id < 2 ^ 32 → status < 2 → locate_reply.Valid (id, status)
-locate_reply_valid id status n h =
-    let small : status < 2 ^ 32 = omega arith in
-    (n, (small, below_is 2 status h))
+locate_reply_valid : (id status : ℕ) → id < 2 ^ 32 → IsAmong locate_statuses status → locate_reply.Valid (id, status)
+locate_reply_valid id status n h = (n, (found_below locate_statuses status (lit< tt, (lit< tt, tt)) h, h))
 
 -- ---- headers
 
@@ -79,27 +99,30 @@ kind_valid kinds.CloseConnection = (lit< tt, refl)
 kind_valid kinds.MessageError = (lit< tt, refl)
 kind_valid kinds.Fragment = (lit< tt, refl)
 
-abbrev pub written_head : Order → Kind → ℕ → Head
-written_head order k size = record { flags = order_sign order; kind = k; size = size }
-
-sign_small : (order : Order) → order_sign order < 256 ^ 1
-sign_small Big = lit< tt
-sign_small Little = lit< tt
-
-head_valid : (order : Order) (k : Kind) (size : ℕ) → size < 2 ^ 32 → head.Valid (written_head order k size)
-head_valid order k size h = (
+head_valid : (h : Head) → h.flags < 256 → h.size < 2 ^ 32 → head.Valid h
+head_valid h flags size = (
   (lit< tt, refl),
-  ((lit< tt, refl), ((lit< tt, refl), ((lit< tt, refl), (((lit< tt, lit< tt), refl), (sign_small order, (kind_valid k, h)))))),
+  ((lit< tt, refl), ((lit< tt, refl), ((lit< tt, refl), (((lit< tt, lit< tt), refl), (flags, (kind_valid h.kind, (size, refl))))))),
 )
 
-no_parts : (order : Order) (k : Kind) (size : ℕ) → if_flags_fit (written_head order k size) ≡ Some (written_head order k size)
+-- a header that is written is read again
+pub head_back : (h : Head) (more : List ℕ) → h.flags < 256 → h.size < 2 ^ 32 → head_in (header.written Big 0 h ++ more) ≡ Ok h
+head_back h more flags size =
+    head_again (header.written Big 0 h ++ more) h
+    (record { front = header.written Big 0 h; more = more; is = refl; spelled = head_codec.spells Big 0 h (head_valid h flags size) })
+
+no_parts : (order : Order) (k : Kind) (size : ℕ) → if_flags_fit (whole_head order k size) ≡ Some (whole_head order k size)
 no_parts Big k size = refl
 no_parts Little k size = refl
 
-header_valid : (order : Order) (k : Kind) (size : ℕ) → size < 2 ^ 32 → header.Valid (written_head order k size)
-header_valid order k size h = (head_valid order k size h, no_parts order k size)
+sign_small : (order : Order) → order_sign order < 256
+sign_small Big = lit< tt
+sign_small Little = lit< tt
 
-sign_means : (order : Order) → order ≡ order_in (order_sign order)
+header_valid : (order : Order) (k : Kind) (size : ℕ) → size < 2 ^ 32 → header.Valid (whole_head order k size)
+header_valid order k size h = (head_valid (whole_head order k size) (sign_small order) h, no_parts order k size)
+
+sign_means : (order : Order) → order ≡ order_of (order_sign order)
 sign_means Big = refl
 sign_means Little = refl
 
@@ -148,7 +171,7 @@ payload_spells (messages.Fragment id rest) order n h = record {
 pub message_spells : (m : Message) (order : Order) → IsNumbered m → Writable m order → Spells (written_message m order) order m
 message_spells m order n w =
     let payload = written_payload order m in
-    let h = written_head order (kind_in m) (length payload) in
+    let h = whole_head order (kind_in m) (length payload) in
     let front = header.written Big 0 h in
     let small : length payload < 2 ^ 32 = omega (arith, w.sized, length-append front payload) in
     record {
@@ -168,12 +191,12 @@ message_back m order n w = message_again (written_message m order) m order (mess
 
 -- ---- a call's answers
 
-pub is_spelled : (m : Message) (order : Order) (result : Result (List ℕ) NoMemory) → IsNumbered m → Writable m order
+pub is_spelled : (m : Message) (order : Order) (result : Result (List ℕ) NoMemory) → IfOk result (λ bytes. IsNumbered m) → Writable m order
     → IfOk result (λ bytes. bytes ≡ written_message m order) → IfOk result (λ bytes. Spells bytes order m)
 is_spelled m order (Ok bytes) n w h = subst (λ (l : List ℕ). Spells l order m) (sym h) (message_spells m order n w)
 is_spelled m order (Err e) n w h = tt
 
-pub is_read_back : (m : Message) (order : Order) (result : Result (List ℕ) NoMemory) → IsNumbered m → Writable m order
+pub is_read_back : (m : Message) (order : Order) (result : Result (List ℕ) NoMemory) → IfOk result (λ bytes. IsNumbered m) → Writable m order
     → IfOk result (λ bytes. bytes ≡ written_message m order) → IfOk result (λ bytes. message_in bytes ≡ Ok (m, order))
 is_read_back m order (Ok bytes) n w h = ap message_in h ∙ message_back m order n w
 is_read_back m order (Err e) n w h = tt

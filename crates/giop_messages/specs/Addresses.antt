@@ -1,11 +1,12 @@
 -- The target of a request, and the object key that it names. (GIOP chapter, `TargetAddress`.)
-use Rattle.std.specs.Prelude.{ℕ, zero, suc, ◌+◌, List, [], slice_get, Option, Some, None}
+use Rattle.std.specs.Prelude.{ℕ, ◌==◌, Bool, true, false, List, [], slice_get, Option, Some, None}
 use Rattle.cdr_codec.specs.declared.faults.CdrWhy.{CdrWhy}
 use Rattle.cdr_codec.specs.declared.faults.CdrWhy.TheVariants.{Short}
 use Rattle.cdr_codec.specs.Formats.{Format, number, octets, nothing, followed, judged, lifted}
 use Rattle.iogr_reference.specs.declared.references.Ior.{Ior}
 use Rattle.iogr_reference.specs.declared.references.Profile.{Profile}
-use Rattle.iogr_reference.specs.Formats.{profile, ior, IsShort, AreShort}
+use Rattle.cdr_codec.specs.Tagged.{IsShort}
+use Rattle.iogr_reference.specs.Formats.{profile, profile_parts, ior, AreShort}
 use Rattle.iogr_reference.specs.Groups.{profile_key}
 use Rattle.giop_messages.specs.declared.faults.Why.{Why}
 use Rattle.giop_messages.specs.declared.faults.Why.TheVariants as causes
@@ -42,12 +43,13 @@ profile_target = judged profile 4 Short (λ p. Some (targets.Profile p)) profile
 abbrev pub reference_target : Format CdrWhy Target
 reference_target = judged (followed (number 4) (λ i. ior)) 4 Short (λ x. Some (targets.Reference x.0 x.1)) reference_in
 
--- what stands behind a discriminator
+abbrev pub row : Bool → Format CdrWhy Target → Format CdrWhy Target → Format CdrWhy Target
+row true f others = f
+row false f others = others
+
+-- what stands behind a discriminator: `KeyAddr` 0, `ProfileAddr` 1, `ReferenceAddr` 2
 abbrev pub target_by : ℕ → Format CdrWhy Target
-target_by zero = key_target
-target_by (suc zero) = profile_target
-target_by (suc (suc zero)) = reference_target
-target_by (suc (suc (suc n))) = nothing (targets.Other (n + 3))
+target_by n = row (n == 0) key_target (row (n == 1) profile_target (row (n == 2) reference_target (nothing (targets.Other n))))
 
 abbrev pub target : Format CdrWhy (ℕ × Target)
 target = followed (number 2) target_by
@@ -55,7 +57,7 @@ target = followed (number 2) target_by
 -- contents that can be read as encapsulations
 abbrev pub IsShortTarget : Target → Type 0
 IsShortTarget (targets.Key key) = Unit {0}
-IsShortTarget (targets.Profile p) = IsShort p.content
+IsShortTarget (targets.Profile p) = IsShort profile_parts p
 IsShortTarget (targets.Reference i r) = AreShort r.profiles
 IsShortTarget (targets.Other n) = Unit {0}
 

@@ -2,14 +2,11 @@
 use Rattle.std.specs.Prelude.{◌≡◌, Option, Some, None, Result, Ok, Err}
 use Rattle.cdr_codec.specs.declared.faults.CdrWhy.{CdrWhy}
 use Rattle.cdr_codec.specs.declared.faults.CdrWhy.TheVariants as values
+use Rattle.cdr_codec.specs.declared.faults.FieldFault.{FieldFault}
+use Rattle.cdr_codec.specs.declared.faults.FieldFault.TheVariants as fields
 use Rattle.cdr_codec.specs.Reading.{Fault, fault_at}
-use Rattle.cdr_codec.specs.Calls.{fault}
-use Rattle.iogr_reference.specs.declared.faults.IorFault.{IorFault}
-use Rattle.iogr_reference.specs.declared.faults.IorFault.TheVariants as references
 use Rattle.giop_messages.specs.declared.faults.Why.{Why}
 use Rattle.giop_messages.specs.declared.faults.Why.TheVariants as causes
-use Rattle.giop_messages.specs.declared.faults.FieldFault.{FieldFault}
-use Rattle.giop_messages.specs.declared.faults.FieldFault.TheVariants as fields
 use Rattle.giop_messages.specs.declared.faults.Malformed.{Malformed}
 use Rattle.giop_messages.specs.declared.faults.ReadFault.{ReadFault}
 use Rattle.giop_messages.specs.declared.faults.ReadFault.TheVariants as faults
@@ -20,15 +17,6 @@ up values.Short = causes.Short
 up values.BadBool = causes.BadBool
 up values.BadString = causes.BadString
 up values.BadOrder = causes.BadOrder
-
--- the first value of a field that can't be read; none for want of memory
-abbrev pub field_fault : FieldFault → Option (Fault CdrWhy)
-field_fault (fields.Bad wrong) = Some (fault wrong)
-field_fault fields.NoMemory = None
-
-abbrev pub of_reference : IorFault → FieldFault
-of_reference (references.Bad wrong) = fields.Bad wrong
-of_reference references.NoMemory = fields.NoMemory
 
 abbrev pub of_field : FieldFault → ReadFault
 of_field (fields.Bad wrong) = faults.Malformed (up wrong.why) wrong.place
@@ -50,12 +38,3 @@ IsJudged (Err wrong) what = what ≡ Err (malformed wrong)
 abbrev pub read_fault : ReadFault → Option (Fault Why)
 read_fault (faults.Malformed why place) = Some (fault_at why place)
 read_fault faults.NoMemory = None
-
-abbrev pub FailsIn : {X : Type 0} → Option (Fault Why) → Result X (Fault Why) → Type 0
-FailsIn None what = Unit {0}
-FailsIn (Some wrong) what = what ≡ Err wrong
-
--- the call answered what stands there, seen by view, or its first fault; nothing is said of want of memory
-abbrev pub Tells : {X Y : Type 0} → (X → Y) → Result X ReadFault → Result Y (Fault Why) → Type 0
-Tells view (Ok x) what = what ≡ Ok (view x)
-Tells view (Err e) what = FailsIn (read_fault e) what

@@ -1,11 +1,16 @@
 -- What ties reading and writing of messages to their spellings.
-use Rattle.std.specs.Prelude.{◌≡◌, ◌↔◌, ℕ, List, ◌++◌, Ok}
+use Rattle.std.specs.Prelude.{◌≡◌, ◌≤◌, ◌<◌, ◌↔◌, ◌^◌, ℕ, true, List, ◌++◌, length, drop, Ok}
+use Rattle.std.specs.List.{All}
 use Rattle.cdr_codec.specs.declared.orders.Order.{Order}
 use Rattle.cdr_codec.specs.declared.orders.Order.TheVariants.{Big}
+use Rattle.cdr_codec.specs.declared.bodies.Raw.{Raw}
+use Rattle.ft_contexts.specs.declared.lists.Context.{Context}
 use Rattle.giop_messages.specs.declared.heads.Head.{Head}
 use Rattle.giop_messages.specs.declared.messages.Message.{Message}
-use Rattle.giop_messages.specs.Heads.{head, head_in}
-use Rattle.giop_messages.specs.Messages.{Spells, message_in}
+use Rattle.giop_messages.specs.declared.heads.TheConstants.{HEAD_LENGTH}
+use Rattle.giop_messages.specs.declared.messages.Message.TheVariants as messages
+use Rattle.giop_messages.specs.Heads.{head, header, head_in, flags_fit}
+use Rattle.giop_messages.specs.Messages.{Spells, fields_in, message_in}
 use Rattle.giop_messages.specs.Writing.{written_message, Writable, IsNumbered}
 
 -- at the front of the bytes stands a header, whatever its flags
@@ -35,3 +40,39 @@ MessagesAreSpelled = (message : Message) (order : Order) → IsNumbered message 
 -- what is written is read again
 abbrev pub MessagesAreReadBack : Type 0
 MessagesAreReadBack = (message : Message) (order : Order) → IsNumbered message → Writable message order → message_in (written_message message order) ≡ Ok (message, order)
+
+-- a header that is written is read again, whatever follows
+abbrev pub HeadersAreReadBack : Type 0
+HeadersAreReadBack = (h : Head) (more : List ℕ) → h.flags < 256 → h.size < 2 ^ 32 → head_in (header.written Big 0 h ++ more) ≡ Ok h
+
+-- a message is its header, and the fields behind it
+abbrev pub MessagesAreFieldsBehindHeaders : Type 0
+MessagesAreFieldsBehindHeaders = (bytes payload : List ℕ) (h : Head) → head_in bytes ≡ Ok h → flags_fit h ≡ true → drop HEAD_LENGTH bytes ≡ payload
+    → h.size ≡ length payload → HEAD_LENGTH ≤ length bytes → message_in bytes ≡ fields_in h payload
+
+-- ---- no context, body or rest is longer than the bytes of its message
+
+abbrev pub AreWithin : ℕ → List Context → Type 0
+AreWithin count contexts = All (λ (c : Context). length c.content ≤ count) contexts
+
+-- a body begins at a multiple of 8
+pub record IsBodyWithin (count : ℕ) (body : Raw) : Type 0 where
+  pub aligned : body.align ≡ 0
+  pub short : length body.bytes ≤ count
+
+pub record ArePartsWithin (count : ℕ) (list : List Context) (raw : Raw) : Type 0 where
+  pub contexts : AreWithin count list
+  pub body : IsBodyWithin count raw
+
+abbrev pub IsWithin : ℕ → Message → Type 0
+IsWithin count (messages.Request r) = ArePartsWithin count r.contexts r.body
+IsWithin count (messages.Reply r) = ArePartsWithin count r.contexts r.body
+IsWithin count (messages.Cancel id) = Unit {0}
+IsWithin count (messages.LocateRequest id key) = Unit {0}
+IsWithin count (messages.LocateReply id status) = Unit {0}
+IsWithin count messages.CloseConnection = Unit {0}
+IsWithin count messages.MessageError = Unit {0}
+IsWithin count (messages.Fragment id rest) = length rest ≤ count
+
+abbrev pub MessagesAreWithin : Type 0
+MessagesAreWithin = (bytes : List ℕ) (order : Order) (message : Message) → Spells bytes order message → IsWithin (length bytes) message

@@ -4,6 +4,7 @@ use Rattle.ft_base.specs.Canonical.{padding}
 use Rattle.cdr_codec.specs.declared.orders.Order.{Order}
 use Rattle.cdr_codec.specs.declared.orders.Order.TheVariants.{Big}
 use Rattle.cdr_codec.specs.declared.bodies.Raw.{Raw}
+use Rattle.cdr_codec.specs.Orders.{order_of}
 use Rattle.cdr_codec.specs.Reading.{Reader, reader_at, Fault, fault_at, ◌>>=◌}
 use Rattle.cdr_codec.specs.Formats.{Spelling}
 use Rattle.giop_messages.specs.declared.faults.Why.{Why}
@@ -17,7 +18,8 @@ use Rattle.giop_messages.specs.declared.messages.RequestMsg.{RequestMsg}
 use Rattle.giop_messages.specs.declared.messages.ReplyMsg.{ReplyMsg}
 use Rattle.giop_messages.specs.declared.requests.RequestHead.{RequestHead}
 use Rattle.giop_messages.specs.declared.replies.ReplyHead.{ReplyHead}
-use Rattle.giop_messages.specs.Heads.{header, order_in}
+use Rattle.giop_messages.specs.declared.heads.TheConstants.{HEAD_LENGTH}
+use Rattle.giop_messages.specs.Heads.{header}
 use Rattle.giop_messages.specs.Fields.{request_id, request_head, reply_head, locate_request, locate_reply}
 
 abbrev pub kind_in : Message → Kind
@@ -56,21 +58,21 @@ pub record SpellsWithBody {X : Type 0} (fields : Spelling X) (order : Order) (x 
   pub front : List ℕ
   pub back : List ℕ
   pub is : payload ≡ front ++ back
-  pub fields_spelled : fields order 12 x front
-  pub body_spelled : SpellsBody order (12 + length front) body back
+  pub fields_spelled : fields order HEAD_LENGTH x front
+  pub body_spelled : SpellsBody order (HEAD_LENGTH + length front) body back
 
 -- fields from the header's end on; what follows them says nothing
 pub record SpellsFields {X : Type 0} (fields : Spelling X) (order : Order) (x : X) (payload : List ℕ) : Type 0 where
   pub front : List ℕ
   pub more : List ℕ
   pub is : payload ≡ front ++ more
-  pub fields_spelled : fields order 12 x front
+  pub fields_spelled : fields order HEAD_LENGTH x front
 
 -- a request id, and behind it what a fragment adds
 pub record SpellsFragment (order : Order) (id : ℕ) (rest payload : List ℕ) : Type 0 where
   pub front : List ℕ
   pub is : payload ≡ front ++ rest
-  pub id_spelled : request_id.Spelled order 12 id front
+  pub id_spelled : request_id.Spelled order HEAD_LENGTH id front
 
 abbrev pub SpellsPayload : Order → Message → List ℕ → Type 0
 SpellsPayload order (messages.Request r) payload = SpellsWithBody request_head.Spelled order (head_of_request r) r.body payload
@@ -90,7 +92,7 @@ pub record Spells (bytes : List ℕ) (order : Order) (message : Message) : Type 
   pub payload : List ℕ
   pub more : List ℕ
   pub is : bytes ≡ front ++ payload ++ more
-  pub ordered : order ≡ order_in flags
+  pub ordered : order ≡ order_of flags
   pub head_spelled : header.Spelled Big 0 (record { flags = flags; kind = kind_in message; size = length payload }) front
   pub fields_spelled : SpellsPayload order message payload
 
@@ -117,18 +119,17 @@ payload_at kinds.CloseConnection r = Ok messages.CloseConnection
 payload_at kinds.MessageError r = Ok messages.MessageError
 payload_at kinds.Fragment r = request_id.read r >>= λ id. Ok (messages.Fragment id.0 id.1.rest)
 
+-- the message of this header whose fields are these bytes, and its byte order
+abbrev pub fields_in : Head → List ℕ → Result (Message × Order) (Fault Why)
+fields_in h payload = payload_at h.kind (reader_at (order_of h.flags) HEAD_LENGTH payload) >>= λ m. Ok (m, order_of h.flags)
+
 -- the bytes end inside the message
 abbrev pub cut : List ℕ → Fault Why
 cut bytes = fault_at causes.Cut (length bytes)
 
--- what stands behind the header, as many bytes as it says, from place 12 on
-abbrev pub payload_reader : Head → List ℕ → Reader
-payload_reader h bytes = reader_at (order_in h.flags) 12 (take h.size (drop 12 bytes))
-
+-- the message behind a header: as many bytes as it says
 abbrev pub behind : List ℕ → Head → Result (Message × Order) (Fault Why)
-behind bytes h =
-    if nat_lt (length bytes) (12 + h.size) then Err (cut bytes)
-    else (payload_at h.kind (payload_reader h bytes) >>= λ m. Ok (m, order_in h.flags))
+behind bytes h = if nat_lt (length bytes) (HEAD_LENGTH + h.size) then Err (cut bytes) else fields_in h (take h.size (drop HEAD_LENGTH bytes))
 
 -- the message of these bytes, whose header this reader reads
 abbrev pub headed : List ℕ → Reader → Result (Message × Order) (Fault Why)
@@ -137,4 +138,4 @@ headed bytes r = header.read r >>= λ h. behind bytes h.0
 -- The message at the front of the bytes and its byte order, or the first thing that is wrong: the header is
 -- judged once it is there, and the fields once the whole message is there.
 abbrev pub message_in : List ℕ → Result (Message × Order) (Fault Why)
-message_in bytes = if nat_lt (length bytes) 12 then Err (cut bytes) else headed bytes (reader_at Big 0 bytes)
+message_in bytes = if nat_lt (length bytes) HEAD_LENGTH then Err (cut bytes) else headed bytes (reader_at Big 0 bytes)

@@ -1,20 +1,22 @@
 -- The one spelling of a message with padding of zeros and reserved octets of 0.
-use Rattle.std.specs.Prelude.{◌≡◌, ◌≤◌, ◌<◌, ◌^◌, ℕ, ◌+◌, List, [], ◌∷◌, ◌++◌, length, replicate, None}
-use Rattle.std.specs.List.{All}
+use Rattle.std.specs.Prelude.{◌≡◌, ◌≤◌, ◌<◌, ◌^◌, ◌==◌, ℕ, ◌+◌, List, [], ◌∷◌, ◌++◌, length, replicate, Some, None}
+use Rattle.std.specs.List.{All, find}
 use Rattle.ft_base.specs.Canonical.{padding}
 use Rattle.ft_base.specs.Text.{zero_place}
 use Rattle.cdr_codec.specs.declared.orders.Order.{Order}
 use Rattle.cdr_codec.specs.declared.orders.Order.TheVariants.{Big}
 use Rattle.cdr_codec.specs.declared.bodies.Raw.{Raw}
-use Rattle.cdr_codec.specs.Formats.{Writing}
-use Rattle.cdr_codec.specs.Encapsulations.{order_sign}
+use Rattle.cdr_codec.specs.Orders.{order_sign}
 use Rattle.ft_contexts.specs.declared.lists.Context.{Context}
+use Rattle.giop_messages.specs.declared.heads.TheConstants.{HEAD_LENGTH, MESSAGE_LIMIT}
+use Rattle.giop_messages.specs.declared.heads.Head.{Head}
+use Rattle.giop_messages.specs.declared.heads.Kind.{Kind}
 use Rattle.giop_messages.specs.declared.messages.Message.{Message}
 use Rattle.giop_messages.specs.declared.messages.Message.TheVariants as messages
 use Rattle.giop_messages.specs.declared.messages.RequestMsg.{RequestMsg}
 use Rattle.giop_messages.specs.declared.messages.ReplyMsg.{ReplyMsg}
 use Rattle.giop_messages.specs.Heads.{header}
-use Rattle.giop_messages.specs.Fields.{request_id, request_head, reply_head, locate_request, locate_reply}
+use Rattle.giop_messages.specs.Fields.{request_id, request_head, reply_statuses, reply_head, locate_request, locate_statuses, locate_reply}
 use Rattle.giop_messages.specs.Messages.{kind_in, head_of_request, head_of_reply}
 
 -- before an empty body there is no padding
@@ -22,30 +24,36 @@ abbrev pub padded_body : ℕ → List ℕ → List ℕ
 padded_body place [] = []
 padded_body place (b ∷ bs) = replicate (padding place 8) 0 ++ b ∷ bs
 
-abbrev pub written_body : Writing (List ℕ)
-written_body order place body = padded_body place body
-
 abbrev pub with_body : List ℕ → Raw → List ℕ
-with_body front body = front ++ padded_body (12 + length front) body.bytes
+with_body front body = front ++ padded_body (HEAD_LENGTH + length front) body.bytes
 
 abbrev pub written_payload : Order → Message → List ℕ
-written_payload order (messages.Request r) = with_body (request_head.written order 12 (head_of_request r)) r.body
-written_payload order (messages.Reply r) = with_body (reply_head.written order 12 (head_of_reply r)) r.body
-written_payload order (messages.Cancel id) = request_id.written order 12 id
-written_payload order (messages.LocateRequest id key) = locate_request.written order 12 (id, key)
-written_payload order (messages.LocateReply id status) = locate_reply.written order 12 (id, status)
+written_payload order (messages.Request r) = with_body (request_head.written order HEAD_LENGTH (head_of_request r)) r.body
+written_payload order (messages.Reply r) = with_body (reply_head.written order HEAD_LENGTH (head_of_reply r)) r.body
+written_payload order (messages.Cancel id) = request_id.written order HEAD_LENGTH id
+written_payload order (messages.LocateRequest id key) = locate_request.written order HEAD_LENGTH (id, key)
+written_payload order (messages.LocateReply id status) = locate_reply.written order HEAD_LENGTH (id, status)
 written_payload order messages.CloseConnection = []
 written_payload order messages.MessageError = []
-written_payload order (messages.Fragment id rest) = request_id.written order 12 id ++ rest
+written_payload order (messages.Fragment id rest) = request_id.written order HEAD_LENGTH id ++ rest
+
+-- the header of a message that is whole
+abbrev pub whole_head : Order → Kind → ℕ → Head
+whole_head order kind size = record { flags = order_sign order; kind = kind; size = size }
+
+-- a header, and as many bytes as it says
+abbrev pub headed_by : Order → Kind → List ℕ → List ℕ
+headed_by order kind payload = header.written Big 0 (whole_head order kind (length payload)) ++ payload
 
 abbrev pub written_message : Message → Order → List ℕ
-written_message message order =
-    let payload = written_payload order message in
-    header.written Big 0 (record { flags = order_sign order; kind = kind_in message; size = length payload }) ++ payload
+written_message message order = headed_by order (kind_in message) (written_payload order message)
 
--- contexts whose contents have a length that can be spelled
-abbrev pub AreCounted : List Context → Type 0
-AreCounted contexts = All (λ (c : Context). length c.content < 2 ^ 32) contexts
+-- ---- what can be written
+
+-- contexts whose number and whose contents' lengths can be spelled
+pub record AreContexts (contexts : List Context) : Type 0 where
+  pub count : length contexts < 2 ^ 32
+  pub contents : All (λ (c : Context). length c.content < 2 ^ 32) contexts
 
 -- a body in the message's byte order, which begins at a multiple of 8
 pub record IsBodyFor (order : Order) (body : Raw) : Type 0 where
@@ -57,14 +65,16 @@ pub record IsRequest (order : Order) (r : RequestMsg) : Type 0 where
   pub key : length r.key < 2 ^ 32
   pub no_zero : zero_place r.op ≡ None
   pub op : length r.op + 1 < 2 ^ 32
-  pub count : length r.contexts < 2 ^ 32
-  pub contents : AreCounted r.contexts
+  pub contexts : AreContexts r.contexts
   pub body : IsBodyFor order r.body
 
+-- the number is one of these
+abbrev pub IsAmong : List ℕ → ℕ → Type 0
+IsAmong statuses number = find (λ status. status == number) statuses ≡ Some number
+
 pub record IsReply (order : Order) (r : ReplyMsg) : Type 0 where
-  pub status : r.status < 6
-  pub count : length r.contexts < 2 ^ 32
-  pub contents : AreCounted r.contexts
+  pub status : IsAmong reply_statuses r.status
+  pub contexts : AreContexts r.contexts
   pub body : IsBodyFor order r.body
 
 abbrev pub HasFields : Order → Message → Type 0
@@ -72,7 +82,7 @@ HasFields order (messages.Request r) = IsRequest order r
 HasFields order (messages.Reply r) = IsReply order r
 HasFields order (messages.Cancel id) = Unit {0}
 HasFields order (messages.LocateRequest id key) = length key < 2 ^ 32
-HasFields order (messages.LocateReply id status) = status < 2
+HasFields order (messages.LocateReply id status) = IsAmong locate_statuses status
 HasFields order messages.CloseConnection = Unit {0}
 HasFields order messages.MessageError = Unit {0}
 HasFields order (messages.Fragment id rest) = length rest < 2 ^ 32
@@ -81,18 +91,22 @@ HasFields order (messages.Fragment id rest) = length rest < 2 ^ 32
 -- are in range, its body begins aligned and in this byte order, and with its header it has at most 1 MiB
 pub record Writable (message : Message) (order : Order) : Type 0 where
   pub fields : HasFields order message
-  pub sized : length (written_message message order) ≤ 1048576
+  pub sized : length (written_message message order) ≤ MESSAGE_LIMIT
 
 -- ---- the numbers of a message, which the code's own types bound
+
+-- the ids of contexts
+abbrev pub AreNumbered : List Context → Type 0
+AreNumbered contexts = All (λ (c : Context). c.id < 2 ^ 32) contexts
 
 pub record IsNumberedRequest (r : RequestMsg) : Type 0 where
   pub id : r.id < 2 ^ 32
   pub flags : r.flags < 256
-  pub contexts : All (λ (c : Context). c.id < 2 ^ 32) r.contexts
+  pub contexts : AreNumbered r.contexts
 
 pub record IsNumberedReply (r : ReplyMsg) : Type 0 where
   pub id : r.id < 2 ^ 32
-  pub contexts : All (λ (c : Context). c.id < 2 ^ 32) r.contexts
+  pub contexts : AreNumbered r.contexts
 
 abbrev pub IsNumbered : Message → Type 0
 IsNumbered (messages.Request r) = IsNumberedRequest r

@@ -1,13 +1,12 @@
 //! The target of a request (GIOP chapter, `TargetAddress`).
 ghost use Rattle.std.specs.Prelude.{◌≡◌, ◌<◌, ◌^◌, length, slice_get, IfOk, OnOk};
-ghost use Rattle.cdr_codec.specs.Calls.{Gives, appended};
+ghost use Rattle.cdr_codec.specs.Calls.{field_fault, Gives, appended};
 ghost use Rattle.iogr_reference.specs.Formats.{AreShort};
-ghost use Rattle.giop_messages.specs.Faults.{field_fault, read_fault};
+ghost use Rattle.giop_messages.specs.Faults.{read_fault};
 ghost use Rattle.giop_messages.specs.Addresses.{key_target, profile_target, reference_target, target_by, target, key_by, key_named, address, IsShortTarget};
 
-use crate::faults::{FieldFault, ReadFault, Why};
-use crate::places::start_of;
-use cdr_codec::{CdrReader, CdrWriter};
+use crate::faults::{ReadFault, Why};
+use cdr_codec::{CdrReader, CdrWriter, FieldFault};
 use ft_base::{Bytes, NoMemory};
 use iogr_reference::{Ior, Profile, key_of, read_ior, read_profile};
 use std::alloc::Global;
@@ -100,7 +99,7 @@ fn key_named(alloc: Global, target: Target) -> Result<Option<Bytes>, NoMemory>
 pub fn read_address(alloc: Global, reader: &mut CdrReader) -> Result<Bytes, ReadFault>
     ensures { Gives (λ key. key) read_fault result (address.read reader.old) reader.new }
 {
-    let place = start_of(2, reader);
+    let place = reader.start(2);
     let (_form, target) = read_target(alloc, reader)?;
     match key_named(alloc, target)? {
         Some(key) => Ok(key),

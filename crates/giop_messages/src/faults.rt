@@ -1,9 +1,8 @@
 ghost use Rattle.std.specs.Prelude.{◌≡◌};
 ghost use Rattle.giop_messages.specs.Faults.{up};
 
-use cdr_codec::{CdrFault, CdrWhy};
+use cdr_codec::{CdrFault, CdrWhy, FieldFault};
 use ft_base::NoMemory;
-use iogr_reference::IorFault;
 use std::alloc::AllocFailed;
 use thiserror::Error;
 
@@ -68,61 +67,6 @@ pub enum ReadFault {
     Malformed { why: Why, place: u32 },
     #[error("no memory")]
     NoMemory,
-}
-
-/// Why a field can't be read.
-#[derive(Clone, Copy)]
-pub enum FieldFault {
-    /// The first value that can't be read.
-    Bad(CdrFault),
-    NoMemory,
-}
-
-impl From<CdrFault> for FieldFault {
-    ghost use Rattle.std.specs.Prelude.{◌≡◌};
-    ghost use Rattle.giop_messages.specs.declared.faults.FieldFault.TheVariants as fields;
-
-    ghost from_gives = { λ wrong e. e ≡ fields.Bad wrong };
-
-    fn from(wrong: CdrFault) -> FieldFault {
-        FieldFault::Bad(wrong)
-    }
-}
-
-impl From<IorFault> for FieldFault {
-    ghost use Rattle.std.specs.Prelude.{◌≡◌};
-    ghost use Rattle.giop_messages.specs.Faults.{of_reference};
-
-    ghost from_gives = { λ wrong e. e ≡ of_reference wrong };
-
-    fn from(wrong: IorFault) -> FieldFault {
-        match wrong {
-            IorFault::Bad(wrong) => FieldFault::Bad(wrong),
-            IorFault::NoMemory => FieldFault::NoMemory,
-        }
-    }
-}
-
-impl From<NoMemory> for FieldFault {
-    ghost use Rattle.std.specs.Prelude.{◌≡◌};
-    ghost use Rattle.giop_messages.specs.declared.faults.FieldFault.TheVariants as fields;
-
-    ghost from_gives = { λ _ e. e ≡ fields.NoMemory };
-
-    fn from(_error: NoMemory) -> FieldFault {
-        FieldFault::NoMemory
-    }
-}
-
-impl<T: Drop> From<AllocFailed<T>> for FieldFault {
-    ghost use Rattle.std.specs.Prelude.{◌≡◌};
-    ghost use Rattle.giop_messages.specs.declared.faults.FieldFault.TheVariants as fields;
-
-    ghost from_gives = { λ _ e. e ≡ fields.NoMemory };
-
-    fn from(_error: AllocFailed<T>) -> FieldFault {
-        FieldFault::NoMemory
-    }
 }
 
 fn why_of(why: CdrWhy) -> Why

@@ -1,16 +1,21 @@
 //! The twelve bytes with which each message begins. (GIOP chapter, "GIOP Message Header".)
-ghost use Rattle.std.specs.Prelude.{◌≡◌, ◌≤◌, ◌<◌, ◌+◌, ◌^◌, length, Some, None, OnOk};
-ghost use Rattle.cdr_codec.specs.Calls.{Gives, appended};
-ghost use Rattle.cdr_codec.specs.Encapsulations.{order_sign};
+ghost use Rattle.std.specs.Prelude.{◌≡◌, ◌≤◌, ◌<◌, ◌+◌, ◌^◌, [], length, IfOk};
+ghost use Rattle.cdr_codec.specs.declared.orders.Order.TheVariants.{Big};
+ghost use Rattle.cdr_codec.specs.Orders.{order_sign, order_of};
+ghost use Rattle.cdr_codec.specs.Calls.{Gives};
 ghost use Rattle.giop_messages.specs.Faults.{wrong_of, IsJudged};
-ghost use Rattle.giop_messages.specs.Heads.{octet, magic_byte, version, kind, kind_of, kind_sign, order_in, more_in, size_by, head, header, has_parts, flags_fit, head_in};
+ghost use Rattle.giop_messages.specs.Heads.{octet, magic_byte, version, kind, kind_of, kind_sign, more_in, size_by, head, header, has_parts, flags_fit, head_in};
 
 use crate::faults::{Malformed, Why};
 use cdr_codec::{CdrReader, CdrWriter, Order};
 use ft_base::NoMemory;
+use std::alloc::Global;
 
 /// The number of bytes of a header.
 pub const HEAD_LENGTH: usize = 12;
+
+/// The most bytes of a message with its header, also of one that came in parts: 1 MiB.
+pub const MESSAGE_LIMIT: usize = 1048576;
 
 /// The type of a message, from 0 to 7.
 #[derive(Clone, Copy, Debug, PartialEq, Eq)]
@@ -83,22 +88,12 @@ impl Kind {
     }
 }
 
-fn order_in(flags: u8) -> Order
-    ensures { result ≡ order_in flags }
-{
-    if flags % 2 == 1 {
-        Order::Little
-    } else {
-        Order::Big
-    }
-}
-
 impl Head {
     /// The byte order of the message.
     pub fn order(self) -> Order
-        ensures { result ≡ order_in self.flags }
+        ensures { result ≡ order_of self.flags }
     {
-        order_in(self.flags)
+        Order::of_flags(self.flags)
     }
 
     /// Whether more fragments of the message follow.
@@ -171,7 +166,7 @@ fn read_kind(reader: &mut CdrReader) -> Result<Kind, Malformed>
 fn read_size(flags: u8, reader: &mut CdrReader) -> Result<u32, Malformed>
     ensures { Gives (λ n. n) wrong_of result ((size_by flags).read reader.old) reader.new }
 {
-    let mut ordered = CdrReader::new(order_in(flags), reader.place(), reader.rest());
+    let mut ordered = CdrReader::new(Order::of_flags(flags), reader.place(), reader.rest());
     let size = ordered.read_u32()?;
     *reader = CdrReader::new(reader.order(), ordered.place(), ordered.rest());
     Ok(size)
@@ -218,29 +213,19 @@ pub fn read_head(bytes: &[u8]) -> Result<Head, Malformed>
     read_fields(&mut reader)
 }
 
-fn order_sign(order: Order) -> u8
-    ensures { result ≡ order_sign order }
-{
-    match order {
-        Order::Big => 0,
-        Order::Little => 1,
-    }
-}
-
-/// The header of a message that is whole, in the writer's byte order.
+/// A writer behind the header of a message that is whole.
 #[tactic(auto, using(crate::proofs::WritingSteps::header_written))]
-pub fn write_header(kind: Kind, size: u32, writer: &mut CdrWriter) -> Result<(), NoMemory>
-    ensures { OnOk result (writer.new ≡ appended header.written (record { flags = order_sign writer.old.order; kind = kind; size = size }) writer.old) }
+pub fn begin_message(
+    alloc: Global,
+    kind: Kind,
+    size: u32,
+    order: Order,
+) -> Result<CdrWriter, NoMemory>
+    ensures { IfOk result (λ writer. writer ≡ record { order = order; place = 0; text = header.written Big 0 (record { flags = order_sign order; kind = kind; size = size }) }) }
 {
-    let flags = order_sign(writer.order());
-    writer.write_octet(b'G')?;
-    writer.write_octet(b'I')?;
-    writer.write_octet(b'O')?;
-    writer.write_octet(b'P')?;
-    writer.write_octet(1)?;
-    writer.write_octet(2)?;
-    writer.write_octet(flags)?;
-    writer.write_octet(kind.number())?;
+    let mut writer = CdrWriter::new(alloc, order, 0);
+    let front = [b'G', b'I', b'O', b'P', 1, 2, order.sign(), kind.number()];
+    writer.write_piece(1, front.as_slice())?;
     writer.write_u32(size)?;
-    Ok(())
+    Ok(writer)
 }

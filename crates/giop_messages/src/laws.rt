@@ -1,5 +1,5 @@
 //! The laws of reading and writing messages. The functions do nothing: their contracts are facts.
-ghost use Rattle.giop_messages.specs.Laws.{HeadsAreReadExactly, MessagesAreReadExactly, MessagesAreSpelledOnce, MessagesAreSpelled, MessagesAreReadBack};
+ghost use Rattle.giop_messages.specs.Laws.{HeadsAreReadExactly, HeadersAreReadBack, MessagesAreReadExactly, MessagesAreSpelledOnce, MessagesAreFieldsBehindHeaders, MessagesAreWithin, MessagesAreSpelled, MessagesAreReadBack};
 
 /// The header that is read of bytes is the one that they spell.
 pub fn heads_are_read_exactly()
@@ -20,4 +20,19 @@ pub fn messages_are_spelled()
 /// What is written is read back, in the byte order in which it was written.
 pub fn messages_are_read_back()
     ensures { MessagesAreReadBack }
+{}
+
+/// A header that is written is read again, whatever follows.
+pub fn headers_are_read_back()
+    ensures { HeadersAreReadBack }
+{}
+
+/// A message is its header, and the fields behind it.
+pub fn messages_are_fields_behind_headers()
+    ensures { MessagesAreFieldsBehindHeaders }
+{}
+
+/// No context, no body and no rest of a fragment is longer than the bytes that spell its message.
+pub fn messages_are_within()
+    ensures { MessagesAreWithin }
 {}

@@ -11,20 +11,24 @@ mod faults;
 mod heads;
 mod laws;
 mod messages;
-mod numbers;
-mod places;
 mod reading;
 mod replies;
 mod requests;
+mod statuses;
 #[cfg(test)]
 mod tests;
 mod writing;
 
 pub use faults::{Malformed, ReadFault, Why};
-pub use heads::{Head, Kind, read_head};
+pub use heads::{HEAD_LENGTH, Head, Kind, MESSAGE_LIMIT, read_head};
 pub use laws::{
-    heads_are_read_exactly, messages_are_read_back, messages_are_read_exactly, messages_are_spelled,
+    headers_are_read_back, heads_are_read_exactly, messages_are_fields_behind_headers,
+    messages_are_read_back, messages_are_read_exactly, messages_are_spelled, messages_are_within,
 };
 pub use messages::{Message, ReplyMsg, RequestMsg};
-pub use reading::read_message;
+pub use reading::{read_fields, read_message};
+pub use statuses::{
+    LOCATION_FORWARD, LOCATION_FORWARD_PERM, NEEDS_ADDRESSING_MODE, NO_EXCEPTION, OBJECT_HERE,
+    SYSTEM_EXCEPTION, UNKNOWN_OBJECT, USER_EXCEPTION,
+};
 pub use writing::write_message;

@@ -1,20 +1,20 @@
 ghost use Rattle.std.specs.Prelude.{◌≡◌, ◌≤◌, ◌+◌, ◌<◌, ◌^◌, length, take, drop, IfOk};
 ghost use Rattle.cdr_codec.specs.declared.orders.Order.{Order};
-ghost use Rattle.cdr_codec.specs.Calls.{Refuses};
+ghost use Rattle.cdr_codec.specs.Calls.{Refuses, Tells};
 ghost use Rattle.giop_messages.specs.declared.heads.Kind.TheVariants as kinds;
 ghost use Rattle.giop_messages.specs.declared.faults.ReadFault.TheVariants as faults;
 ghost use Rattle.giop_messages.specs.declared.faults.Why.TheVariants as causes;
 ghost use Rattle.giop_messages.specs.declared.messages.Message.{Message};
-ghost use Rattle.giop_messages.specs.Faults.{read_fault, Tells};
-ghost use Rattle.giop_messages.specs.Messages.{body_at, payload_at, behind, headed, message_in, Spells};
+ghost use Rattle.giop_messages.specs.Faults.{read_fault};
+ghost use Rattle.giop_messages.specs.Messages.{body_at, payload_at, fields_in, behind, headed, message_in, Spells};
 
 use crate::addresses::read_address;
 use crate::faults::{ReadFault, Why};
 use crate::heads::{HEAD_LENGTH, Head, Kind, read_header};
 use crate::messages::{Message, ReplyMsg, RequestMsg};
-use crate::places::start_of;
-use crate::replies::{read_locate_status, read_reply_head};
+use crate::replies::read_reply_head;
 use crate::requests::read_request_head;
+use crate::statuses::read_locate_status;
 use cdr_codec::{CdrReader, Order, Raw};
 use ft_base::{Bytes, NoMemory};
 use std::alloc::Global;
@@ -28,7 +28,7 @@ fn behind(bytes: &[u8], count: usize) -> &[u8]
 fn read_body(alloc: Global, reader: &CdrReader) -> Result<Raw, NoMemory>
     ensures { IfOk result (λ body. body ≡ body_at reader.now) }
 {
-    let skip = start_of(8, reader) - reader.place();
+    let skip = reader.start(8) - reader.place();
     let bytes = Bytes::of(alloc, behind(reader.rest(), skip as usize))?;
     Ok(Raw {
         order: reader.order(),
@@ -38,7 +38,7 @@ fn read_body(alloc: Global, reader: &CdrReader) -> Result<Raw, NoMemory>
 }
 
 fn read_request(alloc: Global, reader: &mut CdrReader) -> Result<Message, ReadFault>
-    ensures { Tells (λ m. m) result (payload_at kinds.Request reader.old) }
+    ensures { Tells (λ m. m) read_fault result (payload_at kinds.Request reader.old) }
 {
     let head = read_request_head(alloc, reader)?;
     let body = read_body(alloc, reader)?;
@@ -53,7 +53,7 @@ fn read_request(alloc: Global, reader: &mut CdrReader) -> Result<Message, ReadFa
 }
 
 fn read_reply(alloc: Global, reader: &mut CdrReader) -> Result<Message, ReadFault>
-    ensures { Tells (λ m. m) result (payload_at kinds.Reply reader.old) }
+    ensures { Tells (λ m. m) read_fault result (payload_at kinds.Reply reader.old) }
 {
     let head = read_reply_head(alloc, reader)?;
     let body = read_body(alloc, reader)?;
@@ -66,14 +66,14 @@ fn read_reply(alloc: Global, reader: &mut CdrReader) -> Result<Message, ReadFaul
 }
 
 fn read_cancel(reader: &mut CdrReader) -> Result<Message, ReadFault>
-    ensures { Tells (λ m. m) result (payload_at kinds.CancelRequest reader.old) }
+    ensures { Tells (λ m. m) read_fault result (payload_at kinds.CancelRequest reader.old) }
 {
     let id = reader.read_u32()?;
     Ok(Message::Cancel(id))
 }
 
 fn read_locate_request(alloc: Global, reader: &mut CdrReader) -> Result<Message, ReadFault>
-    ensures { Tells (λ m. m) result (payload_at kinds.LocateRequest reader.old) }
+    ensures { Tells (λ m. m) read_fault result (payload_at kinds.LocateRequest reader.old) }
 {
     let id = reader.read_u32()?;
     let key = read_address(alloc, reader)?;
@@ -81,7 +81,7 @@ fn read_locate_request(alloc: Global, reader: &mut CdrReader) -> Result<Message,
 }
 
 fn read_locate_reply(reader: &mut CdrReader) -> Result<Message, ReadFault>
-    ensures { Tells (λ m. m) result (payload_at kinds.LocateReply reader.old) }
+    ensures { Tells (λ m. m) read_fault result (payload_at kinds.LocateReply reader.old) }
 {
     let id = reader.read_u32()?;
     let status = read_locate_status(reader)?;
@@ -89,7 +89,7 @@ fn read_locate_reply(reader: &mut CdrReader) -> Result<Message, ReadFault>
 }
 
 fn read_fragment(alloc: Global, reader: &mut CdrReader) -> Result<Message, ReadFault>
-    ensures { Tells (λ m. m) result (payload_at kinds.Fragment reader.old) }
+    ensures { Tells (λ m. m) read_fault result (payload_at kinds.Fragment reader.old) }
 {
     let id = reader.read_u32()?;
     let rest = Bytes::of(alloc, reader.rest())?;
@@ -97,7 +97,7 @@ fn read_fragment(alloc: Global, reader: &mut CdrReader) -> Result<Message, ReadF
 }
 
 fn read_payload(alloc: Global, kind: Kind, reader: &mut CdrReader) -> Result<Message, ReadFault>
-    ensures { Tells (λ m. m) result (payload_at kind reader.old) }
+    ensures { Tells (λ m. m) read_fault result (payload_at kind reader.old) }
 {
     match kind {
         Kind::Request => read_request(alloc, reader),
@@ -111,6 +111,18 @@ fn read_payload(alloc: Global, kind: Kind, reader: &mut CdrReader) -> Result<Mes
     }
 }
 
+/// The message of a header that was read already, from the bytes behind it, which are as many as it
+/// says; and its byte order.
+pub fn read_fields(alloc: Global, head: Head, payload: &[u8]) -> Result<(Message, Order), ReadFault>
+    requires { length payload.now + 20 < 2 ^ 32 }
+    ensures { Tells (λ m. m) read_fault result (fields_in head payload.now) }
+{
+    let order = head.order();
+    let mut reader = CdrReader::new(order, HEAD_LENGTH as u32, payload);
+    let message = read_payload(alloc, head.kind, &mut reader)?;
+    Ok((message, order))
+}
+
 fn cut(bytes: &[u8]) -> ReadFault
     requires { length bytes.now + 8 < 2 ^ 32 }
     ensures { result ≡ faults.Malformed causes.Cut (length bytes.now) }
@@ -122,8 +134,8 @@ fn cut(bytes: &[u8]) -> ReadFault
 }
 
 fn payload(bytes: &[u8], size: usize) -> &[u8]
-    requires { 12 + size ≤ length bytes.now }
-    ensures value { result.now ≡ take size (drop 12 bytes.now) }
+    requires { HEAD_LENGTH + size ≤ length bytes.now }
+    ensures value { result.now ≡ take size (drop HEAD_LENGTH bytes.now) }
     ensures sized { length result.now ≡ size }
 {
     &bytes[HEAD_LENGTH..][..size]
@@ -131,16 +143,13 @@ fn payload(bytes: &[u8], size: usize) -> &[u8]
 
 fn read_behind(alloc: Global, head: Head, bytes: &[u8]) -> Result<(Message, Order), ReadFault>
     requires { length bytes.now + 8 < 2 ^ 32 }
-    ensures { Tells (λ m. m) result (behind bytes.now head) }
+    ensures { Tells (λ m. m) read_fault result (behind bytes.now head) }
 {
     let size = head.size as usize;
     if bytes.len() < HEAD_LENGTH + size {
         return Err(cut(bytes));
     }
-    let order = head.order();
-    let mut reader = CdrReader::new(order, HEAD_LENGTH as u32, payload(bytes, size));
-    let message = read_payload(alloc, head.kind, &mut reader)?;
-    Ok((message, order))
+    read_fields(alloc, head, payload(bytes, size))
 }
 
 fn read_headed(
@@ -149,7 +158,7 @@ fn read_headed(
     reader: &mut CdrReader,
 ) -> Result<(Message, Order), ReadFault>
     requires { length bytes.now + 8 < 2 ^ 32 }
-    ensures { Tells (λ m. m) result (headed bytes.now reader.old) }
+    ensures { Tells (λ m. m) read_fault result (headed bytes.now reader.old) }
 {
     let head = read_header(reader)?;
     read_behind(alloc, head, bytes)
@@ -157,7 +166,7 @@ fn read_headed(
 
 fn read_exactly(alloc: Global, bytes: &[u8]) -> Result<(Message, Order), ReadFault>
     requires { length bytes.now + 8 < 2 ^ 32 }
-    ensures read { Tells (λ m. m) result (message_in bytes.now) }
+    ensures read { Tells (λ m. m) read_fault result (message_in bytes.now) }
 {
     if bytes.len() < HEAD_LENGTH {
         return Err(cut(bytes));
@@ -171,7 +180,7 @@ pub fn read_message(alloc: Global, bytes: &[u8]) -> Result<(Message, Order), Rea
     requires { length bytes.now + 8 < 2 ^ 32 }
     ensures found { IfOk result (λ m. Spells bytes.now m.1 m.0) }
     ensures refused { Refuses read_fault result ((message : Message) (order : Order) → Spells bytes.now order message → ⊥) }
-    ensures read { Tells (λ m. m) result (message_in bytes.now) }
+    ensures read { Tells (λ m. m) read_fault result (message_in bytes.now) }
 {
     read_exactly(alloc, bytes)
 }

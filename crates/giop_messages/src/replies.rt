@@ -1,14 +1,14 @@
-ghost use Rattle.std.specs.Prelude.{◌≡◌, ◌≤◌, ◌<◌, OnOk};
+ghost use Rattle.std.specs.Prelude.{◌≡◌, OnOk};
 ghost use Rattle.cdr_codec.specs.Calls.{Gives, appended};
-ghost use Rattle.giop_messages.specs.Faults.{read_fault, wrong_of};
-ghost use Rattle.giop_messages.specs.Fields.{reply_status, reply_head, locate_status};
+ghost use Rattle.giop_messages.specs.Faults.{read_fault};
+ghost use Rattle.giop_messages.specs.Fields.{reply_head};
 ghost use Rattle.giop_messages.specs.Messages.{head_of_reply};
-ghost use Rattle.giop_messages.specs.Writing.{IsReply};
+ghost use Rattle.giop_messages.specs.Writing.{IsReply, IsNumberedReply};
 
 use crate::contexts::{read_contexts, write_contexts};
-use crate::faults::{Malformed, ReadFault, Why};
+use crate::faults::ReadFault;
 use crate::messages::ReplyMsg;
-use crate::places::start_of;
+use crate::statuses::read_reply_status;
 use cdr_codec::{CdrReader, CdrWriter};
 use ft_base::NoMemory;
 use ft_contexts::Contexts;
@@ -20,21 +20,6 @@ pub struct ReplyHead {
     pub id: u32,
     pub status: u32,
     pub contexts: Contexts,
-}
-
-fn read_reply_status(reader: &mut CdrReader) -> Result<u32, Malformed>
-    ensures { Gives (λ n. n) wrong_of result (reply_status.read reader.old) reader.new }
-{
-    let place = start_of(4, reader);
-    let status = reader.read_u32()?;
-    if status < 6 {
-        Ok(status)
-    } else {
-        Err(Malformed {
-            why: Why::Status,
-            place,
-        })
-    }
 }
 
 pub fn read_reply_head(alloc: Global, reader: &mut CdrReader) -> Result<ReplyHead, ReadFault>
@@ -50,31 +35,16 @@ pub fn read_reply_head(alloc: Global, reader: &mut CdrReader) -> Result<ReplyHea
     })
 }
 
-/// The status of a LocateReply.
-pub fn read_locate_status(reader: &mut CdrReader) -> Result<u32, Malformed>
-    ensures { Gives (λ n. n) wrong_of result (locate_status.read reader.old) reader.new }
-{
-    let place = start_of(4, reader);
-    let status = reader.read_u32()?;
-    if status < 2 {
-        Ok(status)
-    } else {
-        Err(Malformed {
-            why: Why::Status,
-            place,
-        })
-    }
-}
-
 #[tactic(auto, using(crate::proofs::WritingSteps::reply_head_written))]
 pub fn write_reply_head(reply: &ReplyMsg, writer: &mut CdrWriter) -> Result<(), NoMemory>
     requires { IsReply writer.now.order reply.now }
-    ensures { OnOk result (writer.new ≡ appended reply_head.written (head_of_reply reply.now) writer.old) }
+    ensures written { OnOk result (writer.new ≡ appended reply_head.written (head_of_reply reply.now) writer.old) }
+    ensures numbered { OnOk result (IsNumberedReply reply.now) }
 {
     let id = reply.id;
     let status = reply.status;
     writer.write_u32(id)?;
     writer.write_u32(status)?;
-    write_contexts(reply.contexts.as_slice(), writer)?;
+    write_contexts(&reply.contexts, writer)?;
     Ok(())
 }

@@ -1,15 +1,15 @@
 ghost use Rattle.std.specs.Prelude.{◌≡◌, Some, OnOk};
-ghost use Rattle.cdr_codec.specs.Calls.{fault, Gives, appended};
-ghost use Rattle.giop_messages.specs.Faults.{read_fault};
-ghost use Rattle.giop_messages.specs.Fields.{reserved, from_address, request_head};
+ghost use Rattle.cdr_codec.specs.Calls.{Gives, appended};
+ghost use Rattle.giop_messages.specs.Faults.{read_fault, wrong_of};
+ghost use Rattle.giop_messages.specs.Fields.{reserved, request_head};
 ghost use Rattle.giop_messages.specs.Messages.{head_of_request};
-ghost use Rattle.giop_messages.specs.Writing.{IsRequest};
+ghost use Rattle.giop_messages.specs.Writing.{IsRequest, IsNumberedRequest};
 
 use crate::addresses::{read_address, write_address};
 use crate::contexts::{read_contexts, write_contexts};
-use crate::faults::ReadFault;
+use crate::faults::{Malformed, ReadFault};
 use crate::messages::RequestMsg;
-use cdr_codec::{CdrFault, CdrReader, CdrWriter};
+use cdr_codec::{CdrReader, CdrWriter};
 use ft_base::{Bytes, NoMemory};
 use ft_contexts::Contexts;
 use std::alloc::Global;
@@ -24,11 +24,9 @@ pub struct RequestHead {
     pub contexts: Contexts,
 }
 
-fn read_reserved(reader: &mut CdrReader) -> Result<(), CdrFault>
-    ensures { Gives (λ u. (tt, (tt, tt))) (λ wrong. Some (fault wrong)) result (reserved.read reader.old) reader.new }
+fn read_reserved(reader: &mut CdrReader) -> Result<(), Malformed>
+    ensures { Gives (λ u. tt) wrong_of result (reserved.read reader.old) reader.new }
 {
-    reader.read_octet()?;
-    reader.read_octet()?;
     reader.read_octet()?;
     Ok(())
 }
@@ -38,6 +36,8 @@ pub fn read_request_head(alloc: Global, reader: &mut CdrReader) -> Result<Reques
 {
     let id = reader.read_u32()?;
     let flags = reader.read_octet()?;
+    read_reserved(reader)?;
+    read_reserved(reader)?;
     read_reserved(reader)?;
     let key = read_address(alloc, reader)?;
     let op = reader.read_string()?;
@@ -52,38 +52,27 @@ pub fn read_request_head(alloc: Global, reader: &mut CdrReader) -> Result<Reques
     })
 }
 
-#[tactic(auto, using(crate::proofs::WritingSteps::reserved_written))]
 fn write_reserved(writer: &mut CdrWriter) -> Result<(), NoMemory>
-    ensures { OnOk result (writer.new ≡ appended reserved.written (tt, (tt, tt)) writer.old) }
+    ensures { OnOk result (writer.new ≡ appended reserved.written tt writer.old) }
 {
-    writer.write_octet(0)?;
-    writer.write_octet(0)?;
     writer.write_octet(0)?;
     Ok(())
 }
 
-/// What is called, and what goes with it: the target, the operation, and the contexts.
-#[tactic(auto, using(crate::proofs::WritingSteps::from_address_written))]
-fn write_called(request: &RequestMsg, writer: &mut CdrWriter) -> Result<(), NoMemory>
-    requires { IsRequest writer.now.order request.now }
-    ensures { OnOk result (writer.new ≡ appended from_address.written (request.now.key, (request.now.op, request.now.contexts)) writer.old) }
-{
-    write_address(request.key.bytes(), writer)?;
-    writer.write_string(request.op.bytes())?;
-    write_contexts(request.contexts.as_slice(), writer)?;
-    Ok(())
-}
-
-#[tactic(auto, using(crate::proofs::WritingSteps::request_head_written))]
 pub fn write_request_head(request: &RequestMsg, writer: &mut CdrWriter) -> Result<(), NoMemory>
     requires { IsRequest writer.now.order request.now }
-    ensures { OnOk result (writer.new ≡ appended request_head.written (head_of_request request.now) writer.old) }
+    ensures written { OnOk result (writer.new ≡ appended request_head.written (head_of_request request.now) writer.old) }
+    ensures numbered { OnOk result (IsNumberedRequest request.now) }
 {
     let id = request.id;
     let flags = request.flags;
     writer.write_u32(id)?;
     writer.write_octet(flags)?;
     write_reserved(writer)?;
-    write_called(request, writer)?;
+    write_reserved(writer)?;
+    write_reserved(writer)?;
+    write_address(request.key.bytes(), writer)?;
+    writer.write_string(request.op.bytes())?;
+    write_contexts(&request.contexts, writer)?;
     Ok(())
 }

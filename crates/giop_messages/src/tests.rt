@@ -2,7 +2,7 @@ ghost use Rattle.std.specs.Prelude.{IfOk};
 ghost use Rattle.cdr_codec.specs.declared.orders.Order.TheVariants.{Big, Little};
 ghost use Rattle.giop_messages.specs.Writing.{Writable};
 
-use crate::{Message, ReadFault, ReplyMsg, RequestMsg, Why, read_message, write_message};
+use crate::{Kind, Message, ReadFault, ReplyMsg, RequestMsg, Why, read_message, write_message};
 use cdr_codec::{Order, Raw};
 use ft_base::{Bytes, NoMemory};
 use ft_contexts::{Context, Contexts};
@@ -58,6 +58,9 @@ const MARKED_POP: &str = concat!(
     "0000ffff000000036b6579ff00000004706f700000000000",
 );
 
+// A reply that asks for another form of target: its status is the last that there is.
+const OTHER_FORM: &str = "47494f50010200010000000e0000000900000005000000000000";
+
 // A reply with a context, and a body behind padding that isn't of zeros.
 const TOLD: &str = concat!(
     "47494f5001020001000000200000000900000000",
@@ -75,9 +78,17 @@ const LOCATE: &str = "47494f50010200030000000f0000000900000000000000036b6579";
 
 const LOCATED: &str = "47494f5001020004000000080000000900000001";
 
+// Its more-fragments flag is ignored: it may come in parts.
+const LOCATED_IN_PARTS: &str = "47494f5001020204000000080000000900000001";
+
 const CLOSE: &str = "47494f500102000500000000";
 
 const ERROR: &str = "47494f500102000600000000";
+
+// Bits 2 to 7 of the flags say nothing.
+const FLAGGED_ERROR: &str = "47494f500102fc0600000000";
+
+const FLAGGED_CANCEL: &str = "47494f500102fd020400000009000000";
 
 const FRAGMENT: &str = "47494f50010201070c000000070000006e63650000000000";
 
@@ -151,10 +162,11 @@ fn requests_are_read(rt: HostRuntime) {
 fn replies_are_read(rt: HostRuntime) {
     let alloc = rt.alloc();
     let id = b"\0\0\0\x17IDL:ftc/QueueEmpty:1.0\0".as_slice();
-    let cases: [(&str, Order, u32, u32, usize, &[u8]); 4] = [
+    let cases: [(&str, Order, u32, u32, usize, &[u8]); 5] = [
         (REPLY, Order::Little, 7, 0, 0, b"\x05\0\0\0\0\0\0\0"),
         (DEPOSITED, Order::Big, 1, 0, 0, b"\0\0\0\0\0\0\0\x05"),
         (EXCEPTION, Order::Big, 9, 1, 0, id),
+        (OTHER_FORM, Order::Big, 9, 5, 0, b"\0\0"),
         (TOLD, Order::Big, 9, 0, 1, b"body"),
     ];
     for (text, order, id, status, contexts, body) in cases {
@@ -196,23 +208,34 @@ fn a_key_in_each_form(rt: HostRuntime) {
     }
 }
 
+fn is_read(alloc: Global, text: &str, number: u32, kind: Kind, order: Order) -> bool {
+    match read(alloc, text) {
+        Ok((message, other)) => {
+            let same = match message {
+                Message::Cancel(id) => id == number,
+                Message::LocateReply(id, status) => id == number && status == 1,
+                _ => true,
+            };
+            same && message.kind() == kind && other == order
+        }
+        Err(_) => false,
+    }
+}
+
 #[test]
 fn the_other_messages_are_read(rt: HostRuntime) {
     let alloc = rt.alloc();
-    assert!(rt; matches!(read(alloc, CANCEL), Ok((Message::Cancel(9), Order::Big))));
-    assert!(rt;
-        matches!(
-            read(alloc, LOCATED),
-            Ok((Message::LocateReply(9, 1), Order::Big))
-        )
-    );
-    assert!(rt;
-        matches!(
-            read(alloc, CLOSE),
-            Ok((Message::CloseConnection, Order::Big))
-        )
-    );
-    assert!(rt; matches!(read(alloc, ERROR), Ok((Message::MessageError, Order::Big))));
+    for (text, kind, order) in [
+        (CANCEL, Kind::CancelRequest, Order::Big),
+        (FLAGGED_CANCEL, Kind::CancelRequest, Order::Little),
+        (LOCATED, Kind::LocateReply, Order::Big),
+        (LOCATED_IN_PARTS, Kind::LocateReply, Order::Big),
+        (CLOSE, Kind::CloseConnection, Order::Big),
+        (ERROR, Kind::MessageError, Order::Big),
+        (FLAGGED_ERROR, Kind::MessageError, Order::Big),
+    ] {
+        assert!(rt; is_read(alloc, text, 9, kind, order), "no message {text}");
+    }
     match read(alloc, FRAGMENT) {
         Ok((Message::Fragment(id, rest), Order::Little)) => {
             assert!(rt; id == 7 && is_text(&rest, b"nce\0\0\0\0\0"));
@@ -299,6 +322,8 @@ fn malformed_messages(rt: HostRuntime) {
         ("47494f500202000600000000", Why::Version, 4),
         ("47494f500102020800000000", Why::Kind, 7),
         ("47494f500102020200000008", Why::Flags, 6),
+        ("47494f500102020500000000", Why::Flags, 6),
+        ("47494f500102020600000000", Why::Flags, 6),
         ("47494f5001020006000000", Why::Cut, 11),
         ("47494f5001020001000000040000", Why::Cut, 14),
         ("47494f5001020000000000020000", Why::Short, 12),
@@ -338,6 +363,32 @@ fn malformed_messages(rt: HostRuntime) {
             "47494f500102000000000024000000090300000000020000000000010000000100000000000000010000000100000000",
             Why::Address,
             20,
+        ),
+        // Counts that say more than there is, and less.
+        (
+            "47494f5001020003000000780000000900020000000000000000000100000000ffffffff000000000000000000000000000000000000000000000000000000000000000000000000000000000000000000000000000000000000000000000000000000000000000000000000000000000000000000000000000000000000000000000000",
+            Why::Short,
+            132,
+        ),
+        (
+            "47494f5001020003000000200000000900020000000000000000000100000000000000020000000000000000",
+            Why::Short,
+            44,
+        ),
+        (
+            "47494f50010200030000002300000009000200000000000000000001000000000000000100000000ffffffff616263",
+            Why::Short,
+            40,
+        ),
+        (
+            "47494f5001020003000000200000000900020000000000000000000100000000000000000000000000000000",
+            Why::Address,
+            16,
+        ),
+        (
+            "47494f500102000000000070000000090300000000000000000000036b65790000000004706f7000ffffffff0000000100000000000000010000000000000001000000000000000100000000000000010000000000000001000000000000000100000000000000010000000000000001000000000000000100000000",
+            Why::Short,
+            124,
         ),
         (
             "47494f50010200010000000c000000090000000600000000",

@@ -1,18 +1,20 @@
 -- The framer against the stream: what each of its steps leaves to come.
-use Rattle.std.proofs.Common.{◌≡◌, ℕ, ◌+◌, List, [], ◌∷◌, ◌++◌, length, take, drop, Option, Some, None, Result, Ok, Err, refl, sym, ap, ◌∙◌, subst, arith, append_assoc, length-drop}
-use Rattle.std.proofs.lemmas.List.{append-nil}
+use Rattle.std.proofs.Common.{◌≡◌, ℕ, ◌+◌, ◌<◌, ◌≤◌, List, [], ◌∷◌, ◌++◌, length, take, drop, Option, Some, None, Result, Ok, Err, refl, sym, ap, ◌∙◌, subst, arith, append_assoc, length-append, length-drop}
+use Rattle.std.specs.Prelude.{nat_lt}
+use Rattle.std.proofs.lemmas.Bool.{cond-false, cond-true, le-ltb, lt-ltb}
+use Rattle.std.proofs.lemmas.List.{append-nil, take-append-le}
 use Rattle.giop_messages.specs.declared.heads.Head.{Head}
 use Rattle.giop_stream.specs.declared.faults.StreamFault.{StreamFault}
 use Rattle.giop_stream.specs.declared.faults.StreamFault.TheVariants as faults
 use Rattle.giop_stream.specs.declared.framers.Step.TheVariants as steps
 use Rattle.giop_stream.specs.declared.fronts.Front.TheVariants.{Partly, Wrong, Whole}
 use Rattle.giop_stream.specs.Faults.{OnFault}
-use Rattle.giop_stream.specs.Fronts.{total, front}
+use Rattle.giop_stream.specs.Fronts.{total, front, fronted, head_at, header_at_front, if_read, read_of, IsJudgedAt}
 use Rattle.giop_stream.specs.Parts.{Received, Begun, capped, Turn, Joins, Gives, Fails, turn}
 use Rattle.giop_stream.specs.Streams.{End, Rest, Stops, behind, stops, spent_in, turned, stream_on, stream}
-use Rattle.giop_stream.specs.Frames.{Frames, goes_on, resume, Stands, Passes, EndsWith, HasNext}
-use Rattle.giop_stream.specs.Steps.{stop_at, Took, IsLess, Stepped, Advances}
-use Rattle.giop_stream.proofs.StreamLaws.{front_fits, whole_part, wrong_part, no_part}
+use Rattle.giop_stream.specs.Frames.{Frames, goes_on, resume, Stands, Passes, EndsWith, HasNext, stopped_at}
+use Rattle.giop_stream.specs.Steps.{stop_at, looked, Needs, Took, IsLess, Stepped, Advances}
+use Rattle.giop_stream.proofs.StreamLaws.{front_fits, front_long, front_short, partly_short, whole_part, wrong_part, no_part}
 
 -- ---- what still comes
 
@@ -27,6 +29,34 @@ passes_self f = record { on = λ more. refl }
 
 pub passes_on : (f g k : Frames) (ms : List Received) → Passes f g [] → Passes g k ms → Passes f k ms
 passes_on f g k ms p q = record { on = λ more. p.on more ∙ q.on more }
+
+-- ---- the header at the front
+
+header_short : (bytes : List ℕ) → length bytes < 12 → header_at_front bytes ≡ Ok None
+header_short bytes h = cond-true (nat_lt (length bytes) 12) (Ok None) (if_read (head_at (take 12 bytes))) (lt-ltb (length bytes) 12 h)
+
+header_long : (bytes : List ℕ) → 12 ≤ length bytes → header_at_front bytes ≡ if_read (head_at (take 12 bytes))
+header_long bytes h = cond-false (nat_lt (length bytes) 12) (Ok None) (if_read (head_at (take 12 bytes))) (le-ltb (length bytes) 12 h)
+
+pub looked_none : (f : Frames) (r : Result (Option Head) StreamFault) → r ≡ header_at_front f.rest → f.head ≡ read_of r → f ≡ looked f
+looked_none f r e h = ap (λ (head : Option Head). record f { head = head }) (h ∙ ap read_of e)
+
+pub needs_header : (f : Frames) → f.head ≡ None → length f.rest < 12 → f.used ≡ 0 → Needs f
+needs_header f h lt u = record {
+  partly = front_short f.rest lt;
+  settled = u;
+  judged = h ∙ ap read_of (sym (header_short f.rest lt));
+}
+
+pub needs_rest : (f : Frames) (h : Head) → f.head ≡ Some h → IsJudgedAt (Some h) f.rest → length f.rest < total h → f.used ≡ 0 → Needs f
+needs_rest f h e j lt u = record {
+  partly = front_long f.rest j.0 ∙ ap (fronted f.rest) j.1 ∙ partly_short f.rest h lt;
+  settled = u;
+  judged = e ∙ ap (λ (r : Result Head StreamFault). read_of (if_read r)) (sym j.1) ∙ ap read_of (sym (header_long f.rest j.0));
+}
+
+pub advances_needs : (f : Frames) → f.stopped ≡ None → Needs f → Advances (Ok None) f f
+advances_needs f e n = (passes_self f, n.partly, (e, n.settled, n.judged))
 
 -- ---- one step
 
@@ -44,27 +74,36 @@ left_to_come f g h more r e = ap (λ (rest : List ℕ). stream_on g.begun (rest 
 is_less : (f g : Frames) (h : Head) → front f.rest ≡ Whole h → g.rest ≡ drop (total h) f.rest → IsLess g f
 is_less f g h w r = omega (arith, front_fits f.rest h w, length-drop (total h) f.rest, ap length r)
 
-pub stepped_waits : (f : Frames) → front f.rest ≡ Partly → Stepped (Ok steps.Waits) f f
-stepped_waits f w = (refl, w)
+pub stepped_waits : (f k g : Frames) → front f.rest ≡ Partly → k ≡ looked f → g ≡ record k { used = 0 } → Stepped (Ok steps.Waits) f g
+stepped_waits f k g w l e = (e ∙ ap (λ (k : Frames). record k { used = 0 }) l, w)
 
-pub stepped_joins : (f g : Frames) (h : Head) → f.stopped ≡ None → front f.rest ≡ Whole h → Took (Ok None) f h g → Stepped (Ok steps.Joins) f g
-stepped_joins f g h e w t =
+pub advanced_waits : (f k g : Frames) → Passes f k [] → k.stopped ≡ None → Stepped (Ok steps.Waits) k g → Advances (Ok None) f g
+advanced_waits f k g p e s =
+    let P : Frames → Type 0 = λ g. Advances (Ok None) f g in
+    subst P (sym s.0) (record { on = λ more. p.on more }, s.1, (e, refl, refl))
+
+pub stepped_joins : (f k g : Frames) (h : Head) → f.stopped ≡ None → front f.rest ≡ Whole h → k ≡ looked f → Took (Ok None) k h g
+    → Stepped (Ok steps.Joins) f g
+stepped_joins f k g h e w l took =
+    let t = subst (λ (k : Frames). Took (Ok None) k h g) l took in
     let s : g.stopped ≡ None = t.2 ∙ e in
     (record { on = λ more. front_taken f h (Joins g.begun) more e w t.0 ∙ left_to_come f g h more t.1 s }, s, is_less f g h w t.1)
 
-pub stepped_gives : (f g : Frames) (h : Head) (m : Received) → f.stopped ≡ None → front f.rest ≡ Whole h → Took (Ok (Some m)) f h g
+pub stepped_gives : (f k g : Frames) (h : Head) (m : Received) → f.stopped ≡ None → front f.rest ≡ Whole h → k ≡ looked f → Took (Ok (Some m)) k h g
     → Stepped (Ok (steps.Gives m)) f g
-stepped_gives f g h m e w t = (
-  record { on = λ more. front_taken f h (Gives m g.begun) more e w t.0 ∙ ap (behind (m ∷ [])) (left_to_come f g h more t.1 (t.2 ∙ e)) },
-  is_less f g h w t.1,
-)
+stepped_gives f k g h m e w l took =
+    let t = subst (λ (k : Frames). Took (Ok (Some m)) k h g) l took in (
+      record { on = λ more. front_taken f h (Gives m g.begun) more e w t.0 ∙ ap (behind (m ∷ [])) (left_to_come f g h more t.1 (t.2 ∙ e)) },
+      is_less f g h w t.1,
+      t.3,
+    )
 
 -- the fault comes whatever follows
-stops_all : (f : Frames) (fault : StreamFault) → ((more : List ℕ) → OnFault fault (resume f more ≡ stops fault))
-    → Stepped (Err fault) f (stop_at f fault)
-stops_all f (faults.Malformed why place) h = (record { on = λ more. h more }, refl)
-stops_all f (faults.TooLarge size) h = (record { on = λ more. h more }, refl)
-stops_all f faults.NoMemory h = (passes_self f, tt)
+stops_all : (f k : Frames) (fault : StreamFault) → k ≡ looked f → ((more : List ℕ) → OnFault fault (resume f more ≡ stops fault))
+    → Stepped (Err fault) f (stop_at k fault)
+stops_all f k (faults.Malformed why place) l h = (record { on = λ more. h more }, refl)
+stops_all f k (faults.TooLarge size) l h = (record { on = λ more. h more }, refl)
+stops_all f k faults.NoMemory l h = (record { on = λ more. ap (λ (k : Frames). resume k more) (sym l) }, tt)
 
 on_fault : (fault : StreamFault) (P Q : Type 0) → (P → Q) → OnFault fault P → OnFault fault Q
 on_fault (faults.Malformed why place) P Q f p = f p
@@ -76,17 +115,17 @@ any_fault (faults.Malformed why place) P p = p
 any_fault (faults.TooLarge size) P p = p
 any_fault faults.NoMemory P p = tt
 
-pub stepped_wrong : (f : Frames) (fault : StreamFault) → f.stopped ≡ None → front f.rest ≡ Wrong fault → Stepped (Err fault) f (stop_at f fault)
-stepped_wrong f fault e w =
-    stops_all f fault (λ more. any_fault fault (resume f more ≡ stops fault) (resumed f more e ∙ wrong_part f.begun f.rest more fault w))
+pub stepped_wrong : (f k : Frames) (fault : StreamFault) → f.stopped ≡ None → front f.rest ≡ Wrong fault → k ≡ looked f
+    → Stepped (Err fault) f (stop_at k fault)
+stepped_wrong f k fault e w l =
+    stops_all f k fault l (λ more. any_fault fault (resume f more ≡ stops fault) (resumed f more e ∙ wrong_part f.begun f.rest more fault w))
 
-pub stepped_fails : (f g : Frames) (h : Head) (fault : StreamFault) → f.stopped ≡ None → front f.rest ≡ Whole h → Took (Err fault) f h g
-    → Stepped (Err fault) f (stop_at g fault)
-stepped_fails f g h fault e w t =
-    let P : Frames → Type 0 = λ g. Stepped (Err fault) f (stop_at g fault) in
-    subst P (sym t.0)
-    (stops_all f fault (λ more. on_fault fault (turn f.begun h (take (total h) f.rest) ≡ Fails fault) (resume f more ≡ stops fault)
-    (λ is. front_taken f h (Fails fault) more e w is) t.1))
+pub stepped_fails : (f k g : Frames) (h : Head) (fault : StreamFault) → f.stopped ≡ None → front f.rest ≡ Whole h → k ≡ looked f
+    → Took (Err fault) k h g → Stepped (Err fault) f (stop_at g fault)
+stepped_fails f k g h fault e w l took =
+    let t = subst (λ (k : Frames). Took (Err fault) k h g) l took in
+    stops_all f g fault t.0 (λ more. on_fault fault (turn f.begun h (take (total h) f.rest) ≡ Fails fault) (resume f more ≡ stops fault)
+    (λ is. front_taken f h (Fails fault) more e w is) t.1)
 
 -- ---- the bytes so far
 
@@ -113,6 +152,12 @@ stands_fed f g piece fed given e s =
           ap stream (append_assoc fed piece more) ∙ s.on (piece ++ more) ∙ ap (behind given) (fed_on f piece more f.stopped);
     })
 
+-- a header that was judged stays judged where bytes are appended
+pub judged_on : (head : Option Head) (rest piece : List ℕ) → IsJudgedAt head rest → IsJudgedAt head (rest ++ piece)
+judged_on None rest piece j = tt
+judged_on (Some h) rest piece j =
+    (omega (arith, length-append rest piece), ap head_at (take-append-le 12 rest piece j.0) ∙ j.1, j.2)
+
 pub stands_stopped : (f : Frames) (piece fed : List ℕ) (given : List Received) (fault : StreamFault) → f.stopped ≡ Some fault
     → Stands f fed given → Stands f (fed ++ piece) given
 stands_stopped f piece fed given fault e s =
@@ -135,7 +180,7 @@ stands_passes f g fed given ms p s =
 stands_on : (f g : Frames) (fed : List ℕ) (given : List Received) → Passes f g [] → Stands f fed given → Stands g fed given
 stands_on f g fed given p s = record { on = λ more. s.on more ∙ ap (behind given) (p.on more) }
 
-ended : (given : List Received) (end : End) → behind given (record { messages = []; end = end }) ≡ record { messages = given; end = end }
+pub ended : (given : List Received) (end : End) → behind given (record { messages = []; end = end }) ≡ record { messages = given; end = end }
 ended given end = ap (λ (all : List Received). record { messages = all; end = end }) (append-nil given)
 
 waited : (g : Frames) (fed : List ℕ) (given : List Received) → g.stopped ≡ None → front g.rest ≡ Partly → Stands g fed given
@@ -145,19 +190,22 @@ waited g fed given e w s =
     ∙ ap (behind given) (resumed g [] e ∙ ap (stream_on g.begun) (append-nil g.rest) ∙ no_part g.begun g.rest w)
     ∙ ended given (Rest (capped (spent_in g.begun + length g.rest)))
 
-ends_with : (g : Frames) (fed : List ℕ) (given : List Received) (fault : StreamFault) → Stands g fed given → g.stopped ≡ Some fault
+ends_with : (g : Frames) (fed : List ℕ) (given : List Received) (fault : StreamFault) → Stands g fed given → g ≡ stopped_at fault
     → EndsWith fed given fault
-ends_with g fed given fault s e = λ more. s.on more ∙ ap (behind given) (resumed_at g more fault e) ∙ ended given (Stops fault)
-
-pub advances_stopped : (f : Frames) (fault : StreamFault) → f.stopped ≡ Some fault → Advances (Err fault) f f
-advances_stopped f fault e = (passes_self f, any_fault fault (f.stopped ≡ Some fault) e)
+ends_with g fed given fault s e = λ more. s.on more ∙ ap (behind given) (ap (λ (g : Frames). resume g more) e) ∙ ended given (Stops fault)
 
 pub has_next : (r : Result (Option Received) StreamFault) (f g : Frames) (fed : List ℕ) (given : List Received) → Advances r f g
     → Stands f fed given → HasNext r fed given g
 has_next (Ok (Some m)) f g fed given a s = stands_passes f g fed given (m ∷ []) a.0 s
 has_next (Ok None) f g fed given a s =
     let here : Stands g fed given = stands_on f g fed given a.0 s in
-    (here, (capped (spent_in g.begun + length g.rest), waited g fed given a.1 a.2 here))
+    (here, (capped (spent_in g.begun + length g.rest), waited g fed given a.2.0 a.1 here))
 has_next (Err fault) f g fed given a s =
     let here : Stands g fed given = stands_on f g fed given a.0 s in
-    (here, on_fault fault (g.stopped ≡ Some fault) (EndsWith fed given fault) (ends_with g fed given fault here) a.1)
+    (here, on_fault fault (g ≡ stopped_at fault) (EndsWith fed given fault) (ends_with g fed given fault here) a.1)
+
+-- the fault comes again, whatever was fed
+pub next_stopped : (f : Frames) (fed : List ℕ) (given : List Received) (fault : StreamFault) → f.stopped ≡ Some fault → Stands f fed given
+    → HasNext (Err fault) fed given f
+next_stopped f fed given fault e s =
+    (s, any_fault fault (EndsWith fed given fault) (λ more. s.on more ∙ ap (behind given) (resumed_at f more fault e) ∙ ended given (Stops fault)))

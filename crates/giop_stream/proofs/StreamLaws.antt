@@ -18,19 +18,19 @@ Stays Partly later = Unit {0}
 Stays (Wrong fault) later = later ≡ Wrong fault
 Stays (Whole h) later = later ≡ Whole h
 
-front_short : (bytes : List ℕ) → length bytes < 12 → front bytes ≡ Partly
+pub front_short : (bytes : List ℕ) → length bytes < 12 → front bytes ≡ Partly
 front_short bytes h = cond-true (nat_lt (length bytes) 12) Partly (fronted bytes (head_at (take 12 bytes))) (lt-ltb (length bytes) 12 h)
 
-front_long : (bytes : List ℕ) → 12 ≤ length bytes → front bytes ≡ fronted bytes (head_at (take 12 bytes))
+pub front_long : (bytes : List ℕ) → 12 ≤ length bytes → front bytes ≡ fronted bytes (head_at (take 12 bytes))
 front_long bytes h = cond-false (nat_lt (length bytes) 12) Partly (fronted bytes (head_at (take 12 bytes))) (le-ltb (length bytes) 12 h)
 
 partly_stays : (bytes more : List ℕ) (x : Front) → x ≡ Partly → Stays x (front (bytes ++ more))
 partly_stays bytes more x e = let P : Front → Type 0 = λ x. Stays x (front (bytes ++ more)) in subst P (sym e) tt
 
-whole_stays : (bytes : List ℕ) (h : Head) → total h ≤ length bytes → fronted bytes (Ok h) ≡ Whole h
+pub whole_stays : (bytes : List ℕ) (h : Head) → total h ≤ length bytes → fronted bytes (Ok h) ≡ Whole h
 whole_stays bytes h le = cond-false (nat_lt (length bytes) (total h)) Partly (Whole h) (le-ltb (length bytes) (total h) le)
 
-partly_short : (bytes : List ℕ) (h : Head) → length bytes < total h → fronted bytes (Ok h) ≡ Partly
+pub partly_short : (bytes : List ℕ) (h : Head) → length bytes < total h → fronted bytes (Ok h) ≡ Partly
 partly_short bytes h lt = cond-true (nat_lt (length bytes) (total h)) Partly (Whole h) (lt-ltb (length bytes) (total h) lt)
 
 fronted_stays : (bytes more : List ℕ) (r : Result Head StreamFault) → Stays (fronted bytes r) (fronted (bytes ++ more) r)

@@ -5,14 +5,16 @@ use Rattle.std.specs.List.{position_or_len}
 use Rattle.std.proofs.lemmas.List.{map-append, map-set, length-map, append-nil}
 use Rattle.std.proofs.lemmas.Option.{slice_get-map}
 use Rattle.giop_messages.specs.declared.heads.Head.{Head}
-use Rattle.giop_messages.specs.Heads.{order_in, more_in}
+use Rattle.giop_messages.specs.Heads.{more_in}
+use Rattle.giop_messages.specs.declared.heads.TheConstants.{MESSAGE_LIMIT}
+use Rattle.cdr_codec.specs.Orders.{order_of}
 use Rattle.giop_stream.specs.declared.faults.StreamFault.{StreamFault}
 use Rattle.giop_stream.specs.declared.faults.StreamFault.TheVariants as faults
 use Rattle.giop_stream.specs.declared.tallies.Brief.{Brief}
 use Rattle.giop_stream.specs.declared.fronts.Front.{Front}
 use Rattle.giop_stream.specs.declared.fronts.Front.TheVariants.{Partly, Wrong, Whole}
-use Rattle.giop_stream.specs.Fronts.{message_limit, total, front}
-use Rattle.giop_stream.specs.Parts.{Received, Begun, begun_limit, capped, place_of, id_in, message_at, is_fragment, joined, grown, completes, Turn, Joins, Gives, Fails, gave, out_of_turn, opens, begins_by, grows_at, fragment_at, fragment_by, turn}
+use Rattle.giop_stream.specs.Fronts.{total, front}
+use Rattle.giop_stream.specs.Parts.{Received, Begun, begun_limit, capped, place_of, id_in, message_of, is_fragment, joined_size, grown, completes, Turn, Joins, Gives, Fails, gave, out_of_turn, opens, begins_by, grows_at, fragment_at, fragment_by, turn}
 use Rattle.giop_stream.specs.Streams.{Streamed, Rest, Stops, at_front, turned, spent_in, stream_on, stream}
 use Rattle.giop_stream.specs.Frames.{Frames, goes_on, Stands}
 use Rattle.giop_stream.specs.Tallies.{brief, briefs, brief_place, spent_by, counted, tally_at, tally_placed, tally_fragment, tally_first, tally, Left}
@@ -27,18 +29,18 @@ gave_agrees : (os : List Begun) (bs : List Brief) (r : Result Received StreamFau
 gave_agrees os bs (Ok m) e = e
 gave_agrees os bs (Err fault) e = tt
 
-first_agrees : (os : List Begun) (part : List ℕ) (id : ℕ) (again room : Bool)
-    → Agrees (if again then out_of_turn else (if room then Joins (os ++ record { id = id; bytes = part; spent = length part } ∷ []) else out_of_turn))
+first_agrees : (os : List Begun) (h : Head) (part : List ℕ) (id : ℕ) (again room : Bool)
+    → Agrees (if again then out_of_turn else (if room then Joins (os ++ record { id = id; head = h; payload = drop 12 part; spent = length part } ∷ []) else out_of_turn))
     (if room then briefs os ++ record { id = id; spent = length part } ∷ [] else briefs os)
-first_agrees os part id true room = tt
-first_agrees os part id false true = map-append brief os (record { id = id; bytes = part; spent = length part } ∷ [])
-first_agrees os part id false false = tt
+first_agrees os h part id true room = tt
+first_agrees os h part id false true = map-append brief os (record { id = id; head = h; payload = drop 12 part; spent = length part } ∷ [])
+first_agrees os h part id false false = tt
 
-begins_agrees : (os : List Begun) (part : List ℕ) (r : Result ℕ StreamFault) → Agrees (begins_by os part r) (tally_first (briefs os) part r)
-begins_agrees os part (Ok id) =
-    let P : ℕ → Type 0 = λ n. Agrees (opens os part id) (if nat_lt n begun_limit then briefs os ++ record { id = id; spent = length part } ∷ [] else briefs os) in
-    subst P (sym (length-map os brief)) (first_agrees os part id (is_some (place_of id os)) (nat_lt (length os) begun_limit))
-begins_agrees os part (Err fault) = tt
+begins_agrees : (os : List Begun) (h : Head) (part : List ℕ) (r : Result ℕ StreamFault) → Agrees (begins_by os h part r) (tally_first (briefs os) part r)
+begins_agrees os h part (Ok id) =
+    let P : ℕ → Type 0 = λ n. Agrees (opens os h part id) (if nat_lt n begun_limit then briefs os ++ record { id = id; spent = length part } ∷ [] else briefs os) in
+    subst P (sym (length-map os brief)) (first_agrees os h part id (is_some (place_of id os)) (nat_lt (length os) begun_limit))
+begins_agrees os h part (Err fault) = tt
 
 map-remove : (os : List Begun) (at : ℕ) → briefs (remove os at) ≡ remove (briefs os) at
 map-remove [] zero = refl
@@ -47,17 +49,17 @@ map-remove (o ∷ os) zero = refl
 map-remove (o ∷ os) (suc at) = ap (λ (bs : List Brief). brief o ∷ bs) (map-remove os at)
 
 grows_agrees : (os : List Begun) (at : ℕ) (o : Begun) (part : List ℕ) (large more : Bool)
-    → Agrees (if large then Fails (faults.TooLarge (length o.bytes + length (drop 16 part)))
+    → Agrees (if large then Fails (faults.TooLarge (joined_size o (drop 16 part)))
     else (if more then Joins (slice_set os at (grown o (drop 16 part))) else completes os at o (drop 16 part)))
     (if more then slice_set (briefs os) at (counted (brief o) part) else remove (briefs os) at)
 grows_agrees os at o part true more = tt
 grows_agrees os at o part false true = map-set brief os at (grown o (drop 16 part))
-grows_agrees os at o part false false = gave_agrees (remove os at) (remove (briefs os) at) (message_at (joined o.bytes (drop 16 part))) (map-remove os at)
+grows_agrees os at o part false false = gave_agrees (remove os at) (remove (briefs os) at) (message_of o.head (o.payload ++ drop 16 part)) (map-remove os at)
 
 at_agrees : (os : List Begun) (at : ℕ) (more : Bool) (part : List ℕ) (x : Option Begun)
     → Agrees (grows_at os at more (drop 16 part) x) (tally_at (briefs os) at more part (option_map brief x))
 at_agrees os at more part None = tt
-at_agrees os at more part (Some o) = grows_agrees os at o part (nat_lt message_limit (length o.bytes + length (drop 16 part))) more
+at_agrees os at more part (Some o) = grows_agrees os at o part (nat_lt MESSAGE_LIMIT (joined_size o (drop 16 part))) more
 
 placed_agrees : (os : List Begun) (more : Bool) (part : List ℕ) (place : Option ℕ)
     → Agrees (fragment_at os more (drop 16 part) place) (tally_placed (briefs os) more part place)
@@ -81,13 +83,13 @@ fragment_agrees os more part (Ok id) =
 fragment_agrees os more part (Err fault) = tt
 
 by_kind : (os : List Begun) (h : Head) (part : List ℕ) (fragment_sign more_sign : Bool)
-    → Agrees (if fragment_sign then fragment_by os (more_in h.flags) part (id_in (order_in h.flags) part)
-    else (if more_sign then begins_by os part (id_in (order_in h.flags) part) else gave os (message_at part)))
-    (if fragment_sign then tally_fragment (briefs os) (more_in h.flags) part (id_in (order_in h.flags) part)
-    else (if more_sign then tally_first (briefs os) part (id_in (order_in h.flags) part) else briefs os))
-by_kind os h part true more_sign = fragment_agrees os (more_in h.flags) part (id_in (order_in h.flags) part)
-by_kind os h part false true = begins_agrees os part (id_in (order_in h.flags) part)
-by_kind os h part false false = gave_agrees os (briefs os) (message_at part) refl
+    → Agrees (if fragment_sign then fragment_by os (more_in h.flags) part (id_in (order_of h.flags) part)
+    else (if more_sign then begins_by os h part (id_in (order_of h.flags) part) else gave os (message_of h (drop 12 part))))
+    (if fragment_sign then tally_fragment (briefs os) (more_in h.flags) part (id_in (order_of h.flags) part)
+    else (if more_sign then tally_first (briefs os) part (id_in (order_of h.flags) part) else briefs os))
+by_kind os h part true more_sign = fragment_agrees os (more_in h.flags) part (id_in (order_of h.flags) part)
+by_kind os h part false true = begins_agrees os h part (id_in (order_of h.flags) part)
+by_kind os h part false false = gave_agrees os (briefs os) (message_of h (drop 12 part)) refl
 
 tally_agrees : (os : List Begun) (h : Head) (part : List ℕ) → Agrees (turn os h part) (tally (briefs os) h part)
 unfolding turn tally

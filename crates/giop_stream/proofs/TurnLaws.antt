@@ -5,7 +5,8 @@ use Rattle.std.proofs.lemmas.Option.{slice_get_cases}
 use Rattle.giop_stream.specs.declared.faults.StreamFault.{StreamFault}
 use Rattle.cdr_codec.specs.declared.orders.Order.{Order}
 use Rattle.giop_messages.specs.declared.heads.Head.{Head}
-use Rattle.giop_messages.specs.Heads.{order_in, more_in}
+use Rattle.giop_messages.specs.Heads.{more_in}
+use Rattle.cdr_codec.specs.Orders.{order_of}
 use Rattle.giop_stream.specs.Parts.{Received, Begun, id_in, place_of, Turned, grows_at, fragment_at, fragment_by, fragment}
 
 pub turned_at : (r : Result (Option Received) StreamFault) (os : List Begun) (at : ℕ) (more : Bool) (rest : List ℕ) (after : List Begun)
@@ -22,7 +23,7 @@ turned_at r os at more rest after lt h =
 -- a fragment of a begun message is a turn at that message's place
 pub fragment_turned : (r : Result (Option Received) StreamFault) (os : List Begun) (h : Head) (part rest : List ℕ) (order : Order) (more : Bool)
     (id at : ℕ) (after : List Begun)
-    → order ≡ order_in h.flags → Ok id ≡ id_in order part → Some at ≡ place_of id os → at < length os → more ≡ more_in h.flags → rest ≡ drop 16 part
+    → order ≡ order_of h.flags → Ok id ≡ id_in order part → Some at ≡ place_of id os → at < length os → more ≡ more_in h.flags → rest ≡ drop 16 part
     → ((o : Begun) → slice_get os at ≡ Some o → Turned r os (grows_at os at more rest (Some o)) after)
     → Turned r os (fragment os h part) after
 fragment_turned r os h part rest order more id at after o read place lt m e here =

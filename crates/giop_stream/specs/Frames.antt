@@ -1,15 +1,21 @@
--- Where a framer stands in its stream.
-use Rattle.std.specs.Prelude.{◌≡◌, ◌<◌, ℕ, List, [], ◌∷◌, ◌++◌, length, Option, Some, None, Result, Ok, Err}
+-- Where a framer stands in its stream, and what it keeps.
+use Rattle.std.specs.Prelude.{◌≡◌, ◌≤◌, ◌<◌, ℕ, List, [], ◌∷◌, ◌++◌, length, Option, Some, None, Result, Ok, Err}
+use Rattle.giop_messages.specs.declared.heads.Head.{Head}
 use Rattle.giop_stream.specs.declared.faults.StreamFault.{StreamFault}
 use Rattle.giop_stream.specs.Faults.{OnFault}
+use Rattle.giop_stream.specs.Fronts.{judged_front}
 use Rattle.giop_stream.specs.Parts.{Received, Begun}
 use Rattle.giop_stream.specs.Streams.{Streamed, Rest, Stops, behind, stops, stream_on, stream}
 
--- the bytes that were fed and not taken yet, the begun messages, and the fault at which it stopped
+-- The bytes that were fed and not taken yet, the begun messages, and the fault at which it stopped. Beside these,
+-- the number of bytes that were taken and are still kept, and the header at the front where it was judged, which
+-- tells how many bytes its message or part needs.
 pub record Frames : Type 0 where
   pub rest : List ℕ
   pub begun : List Begun
   pub stopped : Option StreamFault
+  pub used : ℕ
+  pub head : Option Head
 
 abbrev pub goes_on : Frames → List ℕ → Option StreamFault → Streamed
 goes_on f more (Some fault) = stops fault
@@ -46,7 +52,28 @@ Shortens (Ok (Some m)) old new = length new.rest < length old.rest
 Shortens (Ok None) old new = Unit {0}
 Shortens (Err fault) old new = Unit {0}
 
--- a fault but want of memory stays
-abbrev pub StopsAt : Result (Option Received) StreamFault → Frames → Type 0
-StopsAt (Ok m) new = Unit {0}
-StopsAt (Err fault) new = OnFault fault (new.stopped ≡ Some fault)
+-- stopped at a fault: nothing else is kept
+abbrev pub stopped_at : StreamFault → Frames
+stopped_at fault = record { rest = []; begun = []; stopped = Some fault; used = 0; head = None }
+
+-- of a message that was given, a fact
+abbrev pub OnGiven : Result (Option Received) StreamFault → (Received → Type 0) → Type 0
+OnGiven (Ok (Some m)) P = P m
+OnGiven (Ok None) P = Unit {0}
+OnGiven (Err fault) P = Unit {0}
+
+-- a piece is kept behind the other bytes, and changes nothing else; of a link at fault nothing is kept
+abbrev pub piece_kept : Frames → List ℕ → Option StreamFault → Frames
+piece_kept f piece (Some fault) = f
+piece_kept f piece None = record f { rest = f.rest ++ piece }
+
+abbrev pub with_piece : Frames → List ℕ → Frames
+with_piece f piece = piece_kept f piece f.stopped
+
+-- Of the bytes that were taken no more are kept than are left; none where no further message is whole, and then
+-- the header of the begun message or part is judged once and for all. Behind a fault but want of memory nothing is
+-- kept, and the fault stays.
+abbrev pub Keeps : Result (Option Received) StreamFault → Frames → Type 0
+Keeps (Ok (Some m)) new = new.used ≤ length new.rest
+Keeps (Ok None) new = (new.stopped ≡ None) × (new.used ≡ 0) × (new.head ≡ judged_front new.rest)
+Keeps (Err fault) new = OnFault fault (new ≡ stopped_at fault)

@@ -1,18 +1,15 @@
 -- What stands at the front of the bytes of a link: the header of a message or a part is judged as soon as
 -- its twelve bytes are there. (GIOP chapter, "GIOP Message Header" and "Fragment Message".)
-use Rattle.std.specs.Prelude.{◌≤◌, ℕ, ◌+◌, ◌%◌, ◌==◌, ◌&&◌, not, nat_lt, if◌then◌else◌, List, length, take, Result, Ok, Err}
+use Rattle.std.specs.Prelude.{◌≡◌, ◌≤◌, ℕ, ◌+◌, ◌%◌, ◌==◌, ◌&&◌, not, nat_lt, if◌then◌else◌, List, length, take, Option, Some, None, Result, Ok, Err}
 use Rattle.giop_messages.specs.declared.faults.Why.TheVariants as causes
 use Rattle.giop_messages.specs.declared.heads.Head.{Head}
 use Rattle.giop_messages.specs.Heads.{head_in, more_in, flags_fit}
+use Rattle.giop_messages.specs.declared.heads.TheConstants.{MESSAGE_LIMIT}
 use Rattle.giop_stream.specs.declared.faults.StreamFault.{StreamFault}
 use Rattle.giop_stream.specs.declared.faults.StreamFault.TheVariants as faults
 use Rattle.giop_stream.specs.declared.fronts.Front.{Front}
 use Rattle.giop_stream.specs.declared.fronts.Front.TheVariants.{Partly, Wrong, Whole}
 use Rattle.giop_stream.specs.Faults.{told}
-
--- the most bytes of a message with its header, also of one that was joined: 1 MiB
-abbrev pub message_limit : ℕ
-message_limit = 1048576
 
 -- the number of bytes of a message or part, with its header
 abbrev pub total : Head → ℕ
@@ -22,7 +19,7 @@ total h = 12 + h.size
 -- has a length that is a multiple of 8.
 abbrev pub framed : Head → Result Head StreamFault
 framed h =
-    if nat_lt message_limit (total h) then Err (faults.TooLarge (total h))
+    if nat_lt MESSAGE_LIMIT (total h) then Err (faults.TooLarge (total h))
     else (if not (flags_fit h) then Err (faults.Malformed causes.Flags 6)
     else (if more_in h.flags && not (total h % 8 == 0) then Err (faults.Malformed causes.Length 8)
     else Ok h))
@@ -34,6 +31,37 @@ framed_by (Err fault) = Err fault
 -- the header in these twelve bytes, or what is wrong with it
 unfoldable pub head_at : List ℕ → Result Head StreamFault
 head_at bytes = framed_by (told (head_in bytes))
+
+abbrev pub if_read : Result Head StreamFault → Result (Option Head) StreamFault
+if_read (Ok h) = Ok (Some h)
+if_read (Err fault) = Err fault
+
+-- the header at the front of these bytes, if its twelve bytes are there
+abbrev pub header_at_front : List ℕ → Result (Option Head) StreamFault
+header_at_front bytes = if nat_lt (length bytes) 12 then Ok None else if_read (head_at (take 12 bytes))
+
+abbrev pub read_of : Result (Option Head) StreamFault → Option Head
+read_of (Ok head) = head
+read_of (Err fault) = None
+
+-- the header at the front that was judged, if one is there and nothing is wrong with it
+abbrev pub judged_front : List ℕ → Option Head
+judged_front bytes = read_of (header_at_front bytes)
+
+-- this header was judged at the front of these bytes
+abbrev pub IsJudgedAt : Option Head → List ℕ → Type 0
+IsJudgedAt None bytes = Unit {0}
+IsJudgedAt (Some h) bytes = (12 ≤ length bytes) × (head_at (take 12 bytes) ≡ Ok h) × (total h ≤ MESSAGE_LIMIT)
+
+abbrev pub IsJudgedHead : Result (Option Head) StreamFault → List ℕ → Type 0
+IsJudgedHead (Ok head) bytes = IsJudgedAt head bytes
+IsJudgedHead (Err fault) bytes = Unit {0}
+
+-- no header was judged before, where none is answered
+abbrev pub IsUnjudged : Result (Option Head) StreamFault → Option Head → Type 0
+IsUnjudged (Ok None) head = head ≡ None
+IsUnjudged (Ok (Some h)) head = Unit {0}
+IsUnjudged (Err fault) head = head ≡ None
 
 abbrev pub fronted : List ℕ → Result Head StreamFault → Front
 fronted bytes (Err fault) = Wrong fault
@@ -47,4 +75,4 @@ front bytes = if nat_lt (length bytes) 12 then Partly else fronted bytes (head_a
 abbrev pub IsWithin : Front → List ℕ → Type 0
 IsWithin Partly bytes = Unit {0}
 IsWithin (Wrong fault) bytes = Unit {0}
-IsWithin (Whole h) bytes = (total h ≤ message_limit) × (total h ≤ length bytes)
+IsWithin (Whole h) bytes = (total h ≤ MESSAGE_LIMIT) × (total h ≤ length bytes)

@@ -6,3 +6,7 @@ pub mod Streams
 pub mod Frames
 pub mod Steps
 pub mod Tallies
+pub mod Sessions
+pub mod Spelled
+pub mod Written
+pub mod Cutting

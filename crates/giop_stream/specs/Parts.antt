@@ -1,27 +1,29 @@
 -- Messages that are begun, and what a whole message or part does to them. (GIOP chapter, "Fragment Message".)
-use Rattle.std.specs.Prelude.{◌≡◌, ℕ, ◌+◌, ◌-◌, ◌==◌, nat_lt, if◌then◌else◌, Bool, true, false, List, [], ◌∷◌, ◌++◌, length, take, drop, remove, min, position, is_some, slice_get, slice_set, slice_index, Option, Some, None, Result, Ok, Err}
+use Rattle.std.specs.Prelude.{◌≡◌, ℕ, ◌+◌, ◌==◌, nat_lt, if◌then◌else◌, Bool, true, false, List, [], ◌∷◌, ◌++◌, length, drop, remove, min, position, is_some, slice_get, slice_set, Option, Some, None, Result, Ok, Err}
 use Rattle.cdr_codec.specs.declared.orders.Order.{Order}
-use Rattle.cdr_codec.specs.Reading.{reader_at, ◌>>=◌, digits_in}
+use Rattle.cdr_codec.specs.Reading.{reader_at, ◌>>=◌}
 use Rattle.giop_messages.specs.declared.faults.Why.TheVariants as causes
 use Rattle.giop_messages.specs.declared.heads.Head.{Head}
 use Rattle.giop_messages.specs.declared.heads.Kind.{Kind}
 use Rattle.giop_messages.specs.declared.heads.Kind.TheVariants as kinds
 use Rattle.giop_messages.specs.declared.messages.Message.{Message}
-use Rattle.giop_messages.specs.Heads.{order_in, more_in}
+use Rattle.giop_messages.specs.Heads.{more_in}
+use Rattle.giop_messages.specs.declared.heads.TheConstants.{MESSAGE_LIMIT}
+use Rattle.cdr_codec.specs.Orders.{order_of}
 use Rattle.giop_messages.specs.Fields.{request_id}
-use Rattle.giop_messages.specs.Messages.{message_in}
+use Rattle.giop_messages.specs.Messages.{fields_in}
 use Rattle.giop_stream.specs.declared.faults.StreamFault.{StreamFault}
 use Rattle.giop_stream.specs.declared.faults.StreamFault.TheVariants as faults
 use Rattle.giop_stream.specs.Faults.{told, OnFault}
-use Rattle.giop_stream.specs.Fronts.{message_limit}
 
 -- a message and its byte order
 abbrev pub Received : Type 0
 Received = Message × Order
 
--- the message in these bytes, or what is wrong with it
-unfoldable pub message_at : List ℕ → Result Received StreamFault
-message_at bytes = told (message_in bytes)
+-- The message of this header whose fields these bytes are, or what is wrong with it. Of the header its type
+-- and byte order count.
+unfoldable pub message_of : Head → List ℕ → Result Received StreamFault
+message_of h payload = told (fields_in h payload)
 
 -- the request id of a part, in the part's own byte order; it stands right behind the header
 unfoldable pub id_in : Order → List ℕ → Result ℕ StreamFault
@@ -29,11 +31,12 @@ id_in order part = told (request_id.read (reader_at order 12 (drop 12 part)) >>=
 
 -- ---- begun messages
 
--- A message whose last fragment has not come: its request id, its first part as it came with the rests of
--- the fragments so far behind it, and the number of bytes of all these parts with their headers.
+-- A message whose last fragment has not come: its request id, the header of its first part, what stands behind
+-- that with the rests of the fragments so far, and the number of bytes of all these parts with their headers.
 pub record Begun : Type 0 where
   pub id : ℕ
-  pub bytes : List ℕ
+  pub head : Head
+  pub payload : List ℕ
   pub spent : ℕ
 
 -- the most messages that are begun at once
@@ -50,15 +53,11 @@ place_of id os = position (λ (o : Begun). o.id == id) os
 
 -- with the rest of one more fragment; its header and id are 16 bytes
 abbrev pub grown : Begun → List ℕ → Begun
-grown o rest = record { id = o.id; bytes = o.bytes ++ rest; spent = capped (o.spent + (16 + length rest)) }
+grown o rest = record { id = o.id; head = o.head; payload = o.payload ++ rest; spent = capped (o.spent + (16 + length rest)) }
 
--- The whole message: the first part with the last rest behind it, under a header that announces no
--- fragments and has the joined size.
-abbrev pub joined : List ℕ → List ℕ → List ℕ
-joined first rest =
-    let flags = slice_index first 6 in
-    take 6 first ++ ((flags - 2) ∷ slice_index first 7 ∷ []) ++ digits_in (order_in flags) 4 (length first + length rest - 12)
-    ++ drop 12 first ++ rest
+-- the number of bytes of the joined message, with its header, where this rest comes behind a begun one
+abbrev pub joined_size : Begun → List ℕ → ℕ
+joined_size o rest = 12 + length o.payload + length rest
 
 -- ---- what a whole message or part does
 
@@ -77,28 +76,29 @@ gave os (Ok m) = Gives m os
 gave os (Err fault) = Fails fault
 
 -- a first part: its id may not be begun, nor may eight others
-abbrev pub opens : List Begun → List ℕ → ℕ → Turn
-opens os part id =
+abbrev pub opens : List Begun → Head → List ℕ → ℕ → Turn
+opens os h part id =
     if is_some (place_of id os) then out_of_turn
-    else (if nat_lt (length os) begun_limit then Joins (os ++ record { id = id; bytes = part; spent = length part } ∷ [])
+    else (if nat_lt (length os) begun_limit then Joins (os ++ record { id = id; head = h; payload = drop 12 part; spent = length part } ∷ [])
     else out_of_turn)
 
-abbrev pub begins_by : List Begun → List ℕ → Result ℕ StreamFault → Turn
-begins_by os part (Ok id) = opens os part id
-begins_by os part (Err fault) = Fails fault
+abbrev pub begins_by : List Begun → Head → List ℕ → Result ℕ StreamFault → Turn
+begins_by os h part (Ok id) = opens os h part id
+begins_by os h part (Err fault) = Fails fault
 
 abbrev pub begins : List Begun → Head → List ℕ → Turn
-begins os h part = begins_by os part (id_in (order_in h.flags) part)
+begins os h part = begins_by os h part (id_in (order_of h.flags) part)
 
--- the last fragment's rest, behind the begun message that stands there
+-- The last fragment's rest, behind the begun message that stands there: the first part's message, with the rests
+-- of its fragments appended.
 abbrev pub completes : List Begun → ℕ → Begun → List ℕ → Turn
-completes os at o rest = gave (remove os at) (message_at (joined o.bytes rest))
+completes os at o rest = gave (remove os at) (message_of o.head (o.payload ++ rest))
 
 -- a fragment's rest, behind the begun message that stands there
 abbrev pub grows_at : List Begun → ℕ → Bool → List ℕ → Option Begun → Turn
 grows_at os at more rest None = out_of_turn
 grows_at os at more rest (Some o) =
-    if nat_lt message_limit (length o.bytes + length rest) then Fails (faults.TooLarge (length o.bytes + length rest))
+    if nat_lt MESSAGE_LIMIT (joined_size o rest) then Fails (faults.TooLarge (joined_size o rest))
     else (if more then Joins (slice_set os at (grown o rest))
     else completes os at o rest)
 
@@ -111,7 +111,7 @@ fragment_by os more part (Ok id) = fragment_at os more (drop 16 part) (place_of 
 fragment_by os more part (Err fault) = Fails fault
 
 abbrev pub fragment : List Begun → Head → List ℕ → Turn
-fragment os h part = fragment_by os (more_in h.flags) part (id_in (order_in h.flags) part)
+fragment os h part = fragment_by os (more_in h.flags) part (id_in (order_of h.flags) part)
 
 abbrev pub is_fragment : Kind → Bool
 is_fragment kinds.Request = false
@@ -127,7 +127,7 @@ is_fragment kinds.Fragment = true
 unfoldable pub turn : List Begun → Head → List ℕ → Turn
 turn os h part =
     if is_fragment h.kind then fragment os h part
-    else (if more_in h.flags then begins os h part else gave os (message_at part))
+    else (if more_in h.flags then begins os h part else gave os (message_of h (drop 12 part)))
 
 -- ---- what a call did
 

@@ -2,7 +2,8 @@
 -- their parts.
 use Rattle.std.specs.Prelude.{◌≡◌, ℕ, ◌+◌, ◌==◌, nat_lt, if◌then◌else◌, Bool, List, [], ◌∷◌, ◌++◌, length, map, drop, remove, position, slice_get, slice_set, sum_by, Option, Some, None, Result, Ok, Err}
 use Rattle.giop_messages.specs.declared.heads.Head.{Head}
-use Rattle.giop_messages.specs.Heads.{order_in, more_in}
+use Rattle.giop_messages.specs.Heads.{more_in}
+use Rattle.cdr_codec.specs.Orders.{order_of}
 use Rattle.giop_stream.specs.declared.faults.StreamFault.{StreamFault}
 use Rattle.giop_stream.specs.declared.tallies.Brief.{Brief}
 use Rattle.giop_stream.specs.Parts.{Begun, begun_limit, capped, id_in, is_fragment}
@@ -44,8 +45,8 @@ tally_first bs part (Err fault) = bs
 -- the begun messages after a whole message or part that is at no fault
 unfoldable pub tally : List Brief → Head → List ℕ → List Brief
 tally bs h part =
-    if is_fragment h.kind then tally_fragment bs (more_in h.flags) part (id_in (order_in h.flags) part)
-    else (if more_in h.flags then tally_first bs part (id_in (order_in h.flags) part) else bs)
+    if is_fragment h.kind then tally_fragment bs (more_in h.flags) part (id_in (order_of h.flags) part)
+    else (if more_in h.flags then tally_first bs part (id_in (order_of h.flags) part) else bs)
 
 -- these bytes, where such messages are begun, leave so many that belong to no whole message
 pub record Left (bs : List Brief) (bytes : List ℕ) (n : ℕ) : Type 0 where

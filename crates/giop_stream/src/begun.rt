@@ -1,18 +1,14 @@
 //! The messages whose last fragment has not come.
 ghost use Rattle.std.specs.Prelude.{◌≡◌, ◌≤◌, ◌<◌, ◌+◌, ◌==◌, ℕ, [], ◌∷◌, ◌++◌, length, drop, remove, slice_get, slice_set, Some, vec_len, IfOk, IfSome, OnOk, OnErr};
-ghost use Rattle.cdr_codec.specs.Reading.{digits_in};
-ghost use Rattle.giop_messages.specs.Heads.{order_in};
 ghost use Rattle.giop_stream.specs.Faults.{Answers};
-ghost use Rattle.giop_stream.specs.Fronts.{message_limit};
-ghost use Rattle.giop_stream.specs.Parts.{Begun, begun_limit, place_of, grown, joined, id_in, message_at, is_fragment, Joins, begins, completes, grows_at, fragment, turn, Turned};
+ghost use Rattle.giop_stream.specs.Parts.{Begun, begun_limit, place_of, grown, joined_size, id_in, message_of, is_fragment, Joins, begins, completes, grows_at, fragment, turn, Turned};
 ghost use Rattle.giop_stream.specs.Tallies.{brief, briefs};
 
 use crate::faults::StreamFault;
-use crate::fronts::{HEAD_LENGTH, MESSAGE_LIMIT};
 use crate::tallies::{Brief, Tally};
 use cdr_codec::{CdrReader, Order};
 use ft_base::NoMemory;
-use giop_messages::{Head, Kind, Malformed, Message, Why, read_message};
+use giop_messages::{HEAD_LENGTH, Head, Kind, MESSAGE_LIMIT, Malformed, Message, Why, read_fields};
 use std::alloc::Global;
 use std::marker::Model;
 
@@ -27,78 +23,57 @@ const OUT_OF_TURN: StreamFault = StreamFault::Malformed {
     place: 12,
 };
 
-/// A begun message: its id, its first part as it came with the rests of its fragments behind it, and the
-/// number of bytes of all its parts with their headers, as far as it is counted.
+/// A begun message: its id, the header of its first part, what stands behind that with the rests of its
+/// fragments, and the number of bytes of all its parts with their headers, as far as it is counted.
 #[derive(Drop)]
 pub struct Opened {
     id: u32,
-    bytes: Vec<u8>,
+    head: Head,
+    payload: Vec<u8>,
     spent: u32,
 }
 
 impl Model for Opened {
-    ghost use Rattle.std.specs.Prelude.{◌≤◌, vec_len};
-    ghost use Rattle.giop_stream.specs.Fronts.{message_limit};
+    ghost use Rattle.std.specs.Prelude.{◌≤◌, ◌+◌, vec_len};
+    ghost use Rattle.giop_messages.specs.declared.heads.TheConstants.{MESSAGE_LIMIT};
     ghost use Rattle.giop_stream.specs.Parts.{Begun};
 
     ghost Value = { Begun };
 
-    ghost view = { λ o. record { id = o.id; bytes = o.bytes.items; spent = o.spent } };
+    ghost view = { λ o. record { id = o.id; head = o.head; payload = o.payload.items; spent = o.spent } };
 
-    ghost invariant = { λ o. (12 ≤ vec_len o.bytes) × (vec_len o.bytes ≤ message_limit) };
+    ghost invariant = { λ o. 12 + vec_len o.payload ≤ MESSAGE_LIMIT };
 }
 
-fn order_of(flags: u8) -> Order
-    ensures { result ≡ order_in flags }
+#[tactic(auto, unfolding(crate::specs::Parts::message_of))]
+fn read_whole(alloc: Global, head: Head, payload: &[u8]) -> Result<(Message, Order), StreamFault>
+    requires { length payload.now ≤ MESSAGE_LIMIT }
+    ensures { Answers result (message_of head payload.now) }
 {
-    if flags % 2 == 1 {
-        Order::Little
-    } else {
-        Order::Big
-    }
-}
-
-fn digits_of(order: Order, n: u32) -> [u8; 4]
-    ensures { result ≡ digits_in order 4 n }
-{
-    match order {
-        Order::Big => n.to_be_bytes(),
-        Order::Little => n.to_le_bytes(),
-    }
-}
-
-/// A first part and the rest of the last fragment as one message.
-fn join(alloc: Global, first: &[u8], rest: &[u8]) -> Result<Vec<u8>, NoMemory>
-    requires long { 12 ≤ length first.now }
-    requires fits { length first.now + length rest.now ≤ message_limit }
-    ensures value { IfOk result (λ v. v.items ≡ joined first.now rest.now) }
-    ensures small { IfOk result (λ v. vec_len v ≤ message_limit) }
-{
-    let size = first.len() + rest.len();
-    let flags = first[6];
-    let mut message = Vec::with_capacity(alloc, size)?;
-    message.extend_from_slice(&first[..6]).unwrap();
-    message
-        .extend_from_slice(&[flags.saturating_sub(2), first[7]])
-        .unwrap();
-    message
-        .extend_from_slice(&digits_of(order_of(flags), (size - HEAD_LENGTH) as u32))
-        .unwrap();
-    message.extend_from_slice(&first[HEAD_LENGTH..]).unwrap();
-    message.extend_from_slice(rest).unwrap();
+    let message = read_fields(alloc, head, payload)?;
     Ok(message)
 }
 
+fn extend(bytes: &mut Vec<u8>, rest: &[u8]) -> Result<(), NoMemory>
+    ensures ok { OnOk result (bytes.new.items ≡ bytes.old.items ++ rest.now) }
+    ensures len { OnOk result (vec_len bytes.new ≡ vec_len bytes.old + length rest.now) }
+    ensures err { OnErr result ((bytes.new.items ≡ bytes.old.items) × (vec_len bytes.new ≡ vec_len bytes.old)) }
+{
+    bytes.extend_from_slice(rest)?;
+    Ok(())
+}
+
 impl Opened {
-    fn begin(alloc: Global, id: u32, part: &[u8]) -> Result<Opened, NoMemory>
+    fn begin(alloc: Global, id: u32, head: Head, part: &[u8]) -> Result<Opened, NoMemory>
         requires long { 12 ≤ length part.now }
-        requires small { length part.now ≤ message_limit }
-        ensures { IfOk result (λ o. o ≡ record { id = id; bytes = part.now; spent = length part.now }) }
+        requires small { length part.now ≤ MESSAGE_LIMIT }
+        ensures { IfOk result (λ o. o ≡ record { id = id; head = head; payload = drop 12 part.now; spent = length part.now }) }
     {
-        let bytes = Vec::from_slice(alloc, part)?;
+        let payload = Vec::from_slice(alloc, payload_of(part))?;
         Ok(Opened {
             id,
-            bytes,
+            head,
+            payload,
             spent: part.len() as u32,
         })
     }
@@ -118,38 +93,52 @@ impl Opened {
         self.id == id
     }
 
+    // with the header
     fn len(&self) -> usize
-        ensures value { result ≡ length self.now.bytes }
-        ensures small { result ≤ message_limit }
+        ensures value { result ≡ 12 + length self.now.payload }
+        ensures small { result ≤ MESSAGE_LIMIT }
     {
-        self.bytes.len()
+        HEAD_LENGTH + self.payload.len()
     }
 
     fn grow(&mut self, rest: &[u8]) -> Result<(), NoMemory>
-        requires { length self.old.bytes + length rest.now ≤ message_limit }
+        requires { joined_size self.old rest.now ≤ MESSAGE_LIMIT }
         ensures ok { OnOk result (self.new ≡ grown self.old rest.now) }
         ensures err { OnErr result (self.new ≡ self.old) }
     {
-        self.bytes.extend_from_slice(rest)?;
+        extend(&mut self.payload, rest)?;
         self.spent = self
             .spent
             .saturating_add((FRAGMENT_HEAD + rest.len()) as u32);
         Ok(())
     }
 
-    fn join(&self, alloc: Global, rest: &[u8]) -> Result<Vec<u8>, NoMemory>
-        requires { length self.now.bytes + length rest.now ≤ message_limit }
-        ensures value { IfOk result (λ v. v.items ≡ joined self.now.bytes rest.now) }
-        ensures small { IfOk result (λ v. vec_len v ≤ message_limit) }
+    /// The whole message, which this rest ends. The rest is appended only while the message is read.
+    fn join(&mut self, alloc: Global, rest: &[u8]) -> Result<(Message, Order), StreamFault>
+        requires { joined_size self.old rest.now ≤ MESSAGE_LIMIT }
+        ensures value { Answers result (message_of self.old.head (self.old.payload ++ rest.now)) }
+        ensures same { self.new ≡ self.old }
     {
-        join(alloc, self.bytes.as_slice(), rest)
+        let length = self.payload.len();
+        extend(&mut self.payload, rest)?;
+        let message = read_whole(alloc, self.head, self.payload.as_slice());
+        self.payload.truncate(length);
+        message
     }
+}
+
+/// What stands behind the header of a message or part.
+fn payload_of(part: &[u8]) -> &[u8]
+    requires { 12 ≤ length part.now }
+    ensures { result.now ≡ drop 12 part.now }
+{
+    &part[HEAD_LENGTH..]
 }
 
 #[tactic(auto, unfolding(crate::specs::Parts::id_in))]
 pub fn read_id(order: Order, part: &[u8]) -> Result<u32, StreamFault>
     requires long { 12 ≤ length part.now }
-    requires small { length part.now ≤ message_limit }
+    requires small { length part.now ≤ MESSAGE_LIMIT }
     ensures value { result ≡ id_in order part.now }
     ensures room { IfOk result (λ _. 16 ≤ length part.now) }
 {
@@ -172,15 +161,6 @@ fn rest_of(part: &[u8]) -> &[u8]
     ensures { result.now ≡ drop 16 part.now }
 {
     &part[FRAGMENT_HEAD..]
-}
-
-#[tactic(auto, unfolding(crate::specs::Parts::message_at))]
-fn read_whole(alloc: Global, bytes: &[u8]) -> Result<(Message, Order), StreamFault>
-    requires { length bytes.now ≤ message_limit }
-    ensures { Answers result (message_at bytes.now) }
-{
-    let message = read_message(alloc, bytes)?;
-    Ok(message)
 }
 
 pub fn is_fragment(kind: Kind) -> bool
@@ -226,6 +206,14 @@ impl Partials {
         }
     }
 
+    /// Forgets everything, and gives its memory back.
+    pub fn clear(&mut self)
+        ensures { self.new ≡ [] }
+    {
+        self.items.clear();
+        self.items.shrink_to_fit();
+    }
+
     /// What counts the bytes that belong to no whole message.
     pub fn tally(&self) -> Tally
         ensures { result ≡ briefs self.now }
@@ -249,8 +237,8 @@ impl Partials {
 
     fn size(&self, at: usize) -> usize
         requires { at < length self.now }
-        ensures value { (o : Begun) → slice_get self.now at ≡ Some o → result ≡ length o.bytes }
-        ensures small { result ≤ message_limit }
+        ensures value { (o : Begun) → slice_get self.now at ≡ Some o → result ≡ 12 + length o.payload }
+        ensures small { result ≤ MESSAGE_LIMIT }
     {
         self.items[at].len()
     }
@@ -267,7 +255,7 @@ impl Partials {
     #[tactic(auto, using(std::proofs::lemmas::Option::slice_get_read))]
     fn extend(&mut self, at: usize, rest: &[u8]) -> Result<(), NoMemory>
         requires within { at < length self.old }
-        requires fits { (o : Begun) → slice_get self.old at ≡ Some o → length o.bytes + length rest.now ≤ message_limit }
+        requires fits { (o : Begun) → slice_get self.old at ≡ Some o → joined_size o rest.now ≤ MESSAGE_LIMIT }
         ensures ok { (o : Begun) → slice_get self.old at ≡ Some o → OnOk result (self.new ≡ slice_set self.old at (grown o rest.now)) }
         ensures err { OnErr result (self.new ≡ self.old) }
     {
@@ -279,13 +267,22 @@ impl Partials {
     }
 
     #[tactic(auto, using(std::proofs::lemmas::Option::slice_get_read))]
-    fn join(&self, alloc: Global, at: usize, rest: &[u8]) -> Result<Vec<u8>, NoMemory>
-        requires within { at < length self.now }
-        requires fits { (o : Begun) → slice_get self.now at ≡ Some o → length o.bytes + length rest.now ≤ message_limit }
-        ensures value { (o : Begun) → slice_get self.now at ≡ Some o → IfOk result (λ v. v.items ≡ joined o.bytes rest.now) }
-        ensures small { IfOk result (λ v. vec_len v ≤ message_limit) }
+    fn join(
+        &mut self,
+        alloc: Global,
+        at: usize,
+        rest: &[u8],
+    ) -> Result<(Message, Order), StreamFault>
+        requires within { at < length self.old }
+        requires fits { (o : Begun) → slice_get self.old at ≡ Some o → joined_size o rest.now ≤ MESSAGE_LIMIT }
+        ensures value { (o : Begun) → slice_get self.old at ≡ Some o → Answers result (message_of o.head (o.payload ++ rest.now)) }
+        ensures same { self.new ≡ self.old }
     {
-        self.items[at].join(alloc, rest)
+        let begun = &mut self.items[at];
+        match begun.join(alloc, rest) {
+            Ok(message) => return Ok(message),
+            Err(fault) => return Err(fault),
+        }
     }
 
     fn remove(&mut self, at: usize)
@@ -305,14 +302,14 @@ impl Partials {
         part: &[u8],
     ) -> Result<Option<(Message, Order)>, StreamFault>
         requires long { 12 ≤ length part.now }
-        requires small { length part.now ≤ message_limit }
+        requires small { length part.now ≤ MESSAGE_LIMIT }
         ensures { Turned result self.old (begins self.old head part.now) self.new }
     {
         let id = read_id(head.order(), part)?;
         if self.place_of(id).is_some() || self.len() >= BEGUN_LIMIT {
             return Err(OUT_OF_TURN);
         }
-        let begun = Opened::begin(alloc, id, part)?;
+        let begun = Opened::begin(alloc, id, head, part)?;
         self.push(begun)?;
         Ok(None)
     }
@@ -325,11 +322,10 @@ impl Partials {
         rest: &[u8],
     ) -> Result<Option<(Message, Order)>, StreamFault>
         requires within { at < length self.old }
-        requires fits { (o : Begun) → slice_get self.old at ≡ Some o → length o.bytes + length rest.now ≤ message_limit }
+        requires fits { (o : Begun) → slice_get self.old at ≡ Some o → joined_size o rest.now ≤ MESSAGE_LIMIT }
         ensures { (o : Begun) → slice_get self.old at ≡ Some o → Turned result self.old (completes self.old at o rest.now) self.new }
     {
-        let whole = self.join(alloc, at, rest)?;
-        let message = read_whole(alloc, whole.as_slice())?;
+        let message = self.join(alloc, at, rest)?;
         self.remove(at);
         Ok(Some(message))
     }
@@ -343,11 +339,11 @@ impl Partials {
         rest: &[u8],
     ) -> Result<Option<(Message, Order)>, StreamFault>
         requires within { at < length self.old }
-        requires small { length rest.now ≤ message_limit }
+        requires small { length rest.now ≤ MESSAGE_LIMIT }
         ensures { (o : Begun) → slice_get self.old at ≡ Some o → Turned result self.old (grows_at self.old at more rest.now (Some o)) self.new }
     {
         let size = self.size(at) as u64 + rest.len() as u64;
-        if size > MESSAGE_LIMIT {
+        if size > MESSAGE_LIMIT as u64 {
             return Err(StreamFault::TooLarge(size));
         }
         if more {
@@ -364,7 +360,7 @@ impl Partials {
         part: &[u8],
     ) -> Result<Option<(Message, Order)>, StreamFault>
         requires long { 12 ≤ length part.now }
-        requires small { length part.now ≤ message_limit }
+        requires small { length part.now ≤ MESSAGE_LIMIT }
         ensures { Turned result self.old (fragment self.old head part.now) self.new }
     {
         let id = read_id(head.order(), part)?;
@@ -384,7 +380,7 @@ impl Partials {
         part: &[u8],
     ) -> Result<Option<(Message, Order)>, StreamFault>
         requires long { 12 ≤ length part.now }
-        requires small { length part.now ≤ message_limit }
+        requires small { length part.now ≤ MESSAGE_LIMIT }
         ensures { Turned result self.old (turn self.old head part.now) self.new }
     {
         if is_fragment(head.kind) {
@@ -393,7 +389,7 @@ impl Partials {
         if head.more() {
             return self.begin(alloc, head, part);
         }
-        let message = read_whole(alloc, part)?;
+        let message = read_whole(alloc, head, payload_of(part))?;
         Ok(Some(message))
     }
 }

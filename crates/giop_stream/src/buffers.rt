@@ -1,11 +1,14 @@
-ghost use Rattle.std.specs.Prelude.{◌≡◌, ◌≤◌, ◌+◌, [], ◌++◌, length, drop, OnOk, OnErr};
+ghost use Rattle.std.specs.Prelude.{◌≡◌, ◌≤◌, ◌↔◌, ◌+◌, IsTrue, [], ◌++◌, length, drop, vec_len, OnOk, OnErr};
 ghost use Rattle.giop_stream.specs.Buffers.{MovesFew};
 
 use ft_base::NoMemory;
 use std::alloc::Global;
 use std::marker::Model;
 
-/// The bytes that were fed and not taken yet.
+/// Room for so many bytes stays for those to come. More of it is given back whenever bytes are moved.
+const SPARE: usize = 131072;
+
+/// The bytes that were fed and not taken yet. Of those that were taken no more are kept.
 #[derive(Drop)]
 pub struct Buffer {
     bytes: Vec<u8>,
@@ -13,14 +16,28 @@ pub struct Buffer {
 }
 
 impl Model for Buffer {
-    ghost use Rattle.std.specs.Prelude.{◌≤◌, drop, vec_len};
+    ghost use Rattle.std.specs.Prelude.{◌≤◌, ◌+◌, drop, vec_len};
     ghost use Rattle.giop_stream.specs.Buffers.{Buffered};
 
     ghost Value = { Buffered };
 
     ghost view = { λ b. record { unused = drop b.start b.bytes.items; used = b.start } };
 
-    ghost invariant = { λ b. b.start ≤ vec_len b.bytes };
+    ghost invariant = { λ b. b.start + b.start ≤ vec_len b.bytes };
+}
+
+// Forgets so many bytes: moves the others in their place.
+fn forget(bytes: &mut Vec<u8>, count: usize)
+    requires { count ≤ vec_len bytes.old }
+    ensures left { bytes.new.items ≡ drop count bytes.old.items }
+    ensures len { vec_len bytes.new + count ≡ vec_len bytes.old }
+{
+    let left = bytes.len() - count;
+    bytes.copy_within(count.., 0);
+    bytes.truncate(left);
+    if bytes.capacity() > SPARE {
+        bytes.shrink_to(SPARE);
+    }
 }
 
 impl Buffer {
@@ -40,43 +57,61 @@ impl Buffer {
         &self.bytes.as_slice()[self.start..]
     }
 
-    /// Takes bytes from the front. It moves nothing.
-    pub fn skip(&mut self, count: usize)
-        requires { count ≤ length self.old.unused }
-        ensures { self.new ≡ record { unused = drop count self.old.unused; used = self.old.used + count } }
+    pub fn len(&self) -> usize
+        ensures { result ≡ length self.now.unused }
     {
-        self.start += count;
+        self.bytes.len() - self.start
     }
 
-    // Forgets the used bytes, where the others can be moved in their place at no more cost.
-    fn compact(&mut self)
-        ensures same { self.new.unused ≡ self.old.unused }
-        ensures moves { MovesFew self.old self.new }
+    /// Whether no byte that was taken is kept.
+    pub fn is_settled(&self) -> bool
+        ensures { IsTrue result ↔ (self.now.used ≡ 0) }
     {
-        let unused = self.bytes.len() - self.start;
-        if unused <= self.start {
-            self.bytes.copy_within(self.start.., 0);
-            self.bytes.truncate(unused);
+        self.start == 0
+    }
+
+    /// Takes bytes from the front. They are forgotten where the others can be moved in their place at no more
+    /// cost, so that the bytes of a large piece are moved once, and not for each message in it.
+    pub fn skip(&mut self, count: usize)
+        requires { count ≤ length self.old.unused }
+        ensures left { self.new.unused ≡ drop count self.old.unused }
+        ensures few { self.new.used ≤ length self.new.unused }
+        ensures moves { MovesFew count self.old self.new }
+    {
+        let start = self.start + count;
+        if self.bytes.len() - start <= start {
+            forget(&mut self.bytes, start);
+            self.start = 0;
+        } else {
+            self.start = start;
+        }
+    }
+
+    /// Forgets all bytes that were taken. Called between whole messages and parts alone, it moves each byte once.
+    pub fn settle(&mut self)
+        ensures { self.new ≡ record { unused = self.old.unused; used = 0 } }
+    {
+        if self.start > 0 {
+            forget(&mut self.bytes, self.start);
             self.start = 0;
         }
     }
 
-    fn extend(&mut self, piece: &[u8]) -> Result<(), NoMemory>
-        ensures ok { OnOk result (self.new.unused ≡ self.old.unused ++ piece.now) }
-        ensures err { OnErr result (self.new.unused ≡ self.old.unused) }
-        ensures used { self.new.used ≡ self.old.used }
+    /// Forgets everything, and gives its memory back.
+    pub fn clear(&mut self)
+        ensures { self.new ≡ record { unused = []; used = 0 } }
     {
-        self.bytes.extend_from_slice(piece)?;
-        Ok(())
+        self.bytes.clear();
+        self.bytes.shrink_to_fit();
+        self.start = 0;
     }
 
     /// Appends bytes. After want of memory nothing is appended.
     pub fn append(&mut self, piece: &[u8]) -> Result<(), NoMemory>
-        ensures ok { OnOk result (self.new.unused ≡ self.old.unused ++ piece.now) }
-        ensures err { OnErr result (self.new.unused ≡ self.old.unused) }
-        ensures moves { MovesFew self.old self.new }
+        ensures ok { OnOk result (self.new ≡ record { unused = self.old.unused ++ piece.now; used = self.old.used }) }
+        ensures err { OnErr result (self.new ≡ self.old) }
     {
-        self.compact();
-        self.extend(piece)
+        self.bytes.extend_from_slice(piece)?;
+        Ok(())
     }
 }

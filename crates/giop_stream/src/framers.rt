@@ -1,19 +1,22 @@
 //! The framer: it is fed the bytes of a link in any pieces, and gives its messages.
-ghost use Rattle.std.specs.Prelude.{◌≡◌, ◌≤◌, ℕ, List, [], ◌++◌, length, OnOk, OnErr, IfSome, None};
-ghost use Rattle.giop_stream.specs.Fronts.{message_limit, total, front, IsWithin};
+ghost use Rattle.std.specs.Prelude.{◌≡◌, ◌≤◌, ℕ, List, [], ◌++◌, length, IsTrue, OnOk, OnErr, IfSome};
+ghost use Rattle.giop_messages.specs.declared.heads.TheConstants.{MESSAGE_LIMIT};
+ghost use Rattle.giop_stream.specs.Fronts.{total, header_at_front, fronted, front, IsJudgedAt, IsJudgedHead, IsUnjudged, IsWithin};
 ghost use Rattle.giop_stream.specs.Parts.{Received};
 ghost use Rattle.giop_stream.specs.Streams.{Rest, stream};
 ghost use Rattle.giop_stream.specs.Tallies.{briefs, Left};
-ghost use Rattle.giop_stream.specs.Frames.{Stands, HasNext, Shortens, StopsAt};
-ghost use Rattle.giop_stream.specs.Steps.{stop_at, Took, Stepped, Advances};
+ghost use Rattle.giop_stream.specs.Frames.{Stands, HasNext, Shortens, Keeps, OnGiven, stopped_at, with_piece};
+ghost use Rattle.giop_stream.specs.Spelled.{IsSpelled};
+ghost use Rattle.giop_stream.specs.Steps.{stop_at, looked, Needs, Took, Stepped, Advances};
 
 use crate::begun::Partials;
 use crate::buffers::Buffer;
 use crate::faults::StreamFault;
-use crate::fronts::{Front, HEAD_LENGTH, read_front};
+use crate::fronts::{Front, front_by, read_header};
+use crate::laws::streams_are_spelled;
 use cdr_codec::Order;
 use ft_base::NoMemory;
-use giop_messages::{Head, Message};
+use giop_messages::{HEAD_LENGTH, Head, Message};
 use std::alloc::Global;
 use std::marker::Model;
 
@@ -22,20 +25,28 @@ use std::marker::Model;
 /// A header is judged as soon as its twelve bytes are there, and what stands behind it once the whole
 /// message or part is there. A message has at most 1 MiB, also a joined one, and at most eight are begun
 /// at once.
+///
+/// It keeps the bytes that it has not given yet and the begun messages, and takes no memory ahead of their bytes,
+/// whatever a header says.
 #[derive(Drop)]
 pub struct Framer {
     alloc: Global,
     buffer: Buffer,
+    // The header at the front, once it was judged. It tells how many bytes are needed.
+    head: Option<Head>,
     partials: Partials,
     stopped: Option<StreamFault>,
 }
 
 impl Model for Framer {
+    ghost use Rattle.giop_stream.specs.Fronts.{IsJudgedAt};
     ghost use Rattle.giop_stream.specs.Frames.{Frames};
 
     ghost Value = { Frames };
 
-    ghost view = { λ f. record { rest = f.buffer.unused; begun = f.partials; stopped = f.stopped } };
+    ghost view = { λ f. record { rest = f.buffer.unused; begun = f.partials; stopped = f.stopped; used = f.buffer.used; head = f.head } };
+
+    ghost invariant = { λ f. IsJudgedAt f.head f.buffer.unused };
 }
 
 /// What one step over the front of the bytes did.
@@ -49,11 +60,67 @@ enum Step {
 }
 
 impl Framer {
-    fn look(&self) -> Front
-        ensures value { result ≡ front self.now.rest }
+    // The header at the front, which is judged once.
+    fn judged(&self) -> Result<Option<Head>, StreamFault>
+        ensures value { result ≡ header_at_front self.now.rest }
+        ensures judged { IsJudgedHead result self.now.rest }
+        ensures before { IsUnjudged result self.now.head }
+    {
+        match self.head {
+            Some(head) => Ok(Some(head)),
+            None => read_header(self.buffer.unused()),
+        }
+    }
+
+    fn front_by(&self, head: Head) -> Front
+        requires { total head ≤ MESSAGE_LIMIT }
+        ensures value { result ≡ fronted self.now.rest (Ok head) }
         ensures within { IsWithin result self.now.rest }
     {
-        read_front(self.buffer.unused())
+        front_by(head, self.buffer.unused())
+    }
+
+    fn keep(&mut self, head: Head)
+        requires { IsJudgedAt (Some head) self.old.rest }
+        ensures { self.new ≡ record self.old { head = Some head } }
+    {
+        self.head = Some(head);
+    }
+
+    fn look(&mut self) -> Front
+        ensures value { result ≡ front self.old.rest }
+        ensures within { IsWithin result self.old.rest }
+        ensures looked { self.new ≡ looked self.old }
+    {
+        match self.judged() {
+            Ok(None) => Front::Partly,
+            Ok(Some(head)) => {
+                self.keep(head);
+                self.front_by(head)
+            }
+            Err(fault) => Front::Wrong(fault),
+        }
+    }
+
+    // Whether bytes are missing of what is begun at the front, whose header was judged, and nothing is to be
+    // forgotten.
+    #[tactic(auto, using(crate::proofs::FrameLaws::needs_header, crate::proofs::FrameLaws::needs_rest))]
+    fn needs_more(&self) -> bool
+        ensures { IsTrue result → Needs self.now }
+    {
+        let length = self.buffer.len();
+        let needed = match self.head {
+            None => HEAD_LENGTH,
+            Some(head) => HEAD_LENGTH + head.size as usize,
+        };
+        length < needed && self.buffer.is_settled()
+    }
+
+    // Nothing whole is at the front.
+    fn settle(&mut self)
+        ensures { self.new ≡ record self.old { used = 0 } }
+    {
+        self.buffer.settle();
     }
 
     fn stopped(&self) -> Option<StreamFault>
@@ -62,18 +129,28 @@ impl Framer {
         self.stopped
     }
 
+    // Keeps this fault, and nothing else.
+    fn forget(&mut self, fault: StreamFault)
+        ensures { self.new ≡ stopped_at fault }
+    {
+        self.head = None;
+        self.buffer.clear();
+        self.partials.clear();
+        self.stopped = Some(fault);
+    }
+
     fn stop(&mut self, fault: StreamFault)
         ensures { self.new ≡ stop_at self.old fault }
     {
         match fault {
             StreamFault::NoMemory => {}
-            StreamFault::Malformed { .. } | StreamFault::TooLarge(_) => self.stopped = Some(fault),
+            StreamFault::Malformed { .. } | StreamFault::TooLarge(_) => self.forget(fault),
         }
     }
 
     /// Takes the whole message or part at the front.
     fn take(&mut self, head: Head) -> Result<Option<(Message, Order)>, StreamFault>
-        requires small { total head ≤ message_limit }
+        requires small { total head ≤ MESSAGE_LIMIT }
         requires within { total head ≤ length self.old.rest }
         ensures { Took result self.old head self.new }
     {
@@ -81,6 +158,7 @@ impl Framer {
         let part = &self.buffer.unused()[..count];
         match self.partials.take(self.alloc, head, part) {
             Ok(message) => {
+                self.head = None;
                 self.buffer.skip(count);
                 Ok(message)
             }
@@ -94,7 +172,10 @@ impl Framer {
         ensures { Stepped result self.old self.new }
     {
         match self.look() {
-            Front::Partly => Ok(Step::Waits),
+            Front::Partly => {
+                self.settle();
+                Ok(Step::Waits)
+            }
             Front::Wrong(fault) => {
                 self.stop(fault);
                 Err(fault)
@@ -110,14 +191,18 @@ impl Framer {
         }
     }
 
-    #[tactic(auto, using(crate::proofs::FrameLaws::passes_self, crate::proofs::FrameLaws::passes_on))]
+    #[tactic(auto, using(crate::proofs::FrameLaws::passes_self, crate::proofs::FrameLaws::passes_on, crate::proofs::FrameLaws::advanced_waits))]
     fn advance(&mut self) -> Result<Option<(Message, Order)>, StreamFault>
         requires { self.old.stopped ≡ None }
-        ensures { Advances result self.old self.new }
+        ensures advances { Advances result self.old self.new }
+        ensures spelled { OnGiven result IsSpelled }
     {
         'parts: loop {
             match self.step() {
-                Ok(Step::Gives(message)) => return Ok(Some(message)),
+                Ok(Step::Gives(message)) => {
+                    streams_are_spelled();
+                    return Ok(Some(message));
+                }
                 Ok(Step::Waits) => return Ok(None),
                 Ok(Step::Joins) => {}
                 Err(fault) => return Err(fault),
@@ -134,10 +219,12 @@ impl Framer {
             alloc,
             buffer: Buffer::new(alloc),
             partials: Partials::new(alloc),
+            head: None,
             stopped: None,
         }
     }
 
+    #[tactic(auto, using(crate::proofs::FrameLaws::judged_on))]
     fn append(&mut self, piece: &[u8]) -> Result<(), NoMemory>
         ensures ok { OnOk result (self.new ≡ record self.old { rest = self.old.rest ++ piece.now }) }
         ensures err { OnErr result (self.new ≡ self.old) }
@@ -150,7 +237,9 @@ impl Framer {
     #[tactic(auto, using(crate::proofs::FrameLaws::stands_fed, crate::proofs::FrameLaws::stands_stopped))]
     pub fn feed(&mut self, piece: &[u8]) -> Result<(), NoMemory>
         ensures ok { OnOk result ((fed : List ℕ) (given : List Received) → Stands self.old fed given → Stands self.new (fed ++ piece.now) given) }
+        ensures kept { OnOk result (self.new ≡ with_piece self.old piece.now) }
         ensures err { OnErr result (self.new ≡ self.old) }
+        ensures stopped { IfSome self.old.stopped (λ _. (result ≡ Ok tt) × (self.new ≡ self.old)) }
     {
         if self.stopped().is_some() {
             return Ok(());
@@ -161,17 +250,24 @@ impl Framer {
     /// The next message, with its byte order; `None` where no further one is whole.
     ///
     /// `NoMemory` is answered anew until there is memory, and loses nothing. Each other fault is answered
-    /// for ever: a link at fault can't be read on.
-    #[tactic(auto, using(crate::proofs::FrameLaws::has_next, crate::proofs::FrameLaws::advances_stopped))]
+    /// for ever, whatever is fed: a link at fault can't be read on.
+    #[tactic(auto, using(crate::proofs::FrameLaws::has_next, crate::proofs::FrameLaws::next_stopped, crate::proofs::FrameLaws::advances_needs))]
     pub fn next(&mut self) -> Result<Option<(Message, Order)>, StreamFault>
         ensures next { (fed : List ℕ) (given : List Received) → Stands self.old fed given → HasNext result fed given self.new }
+        ensures spelled { OnGiven result IsSpelled }
         ensures shorter { Shortens result self.old self.new }
-        ensures stays { StopsAt result self.new }
+        ensures keeps { self.old.stopped ≡ None → Keeps result self.new }
         ensures again { IfSome self.old.stopped (λ fault. (result ≡ Err fault) × (self.new ≡ self.old)) }
     {
         match self.stopped() {
             Some(fault) => Err(fault),
-            None => self.advance(),
+            None => {
+                if self.needs_more() {
+                    Ok(None)
+                } else {
+                    self.advance()
+                }
+            }
         }
     }
 

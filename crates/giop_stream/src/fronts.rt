@@ -1,14 +1,8 @@
 ghost use Rattle.std.specs.Prelude.{◌≡◌, ◌≤◌, IfOk, length};
-ghost use Rattle.giop_stream.specs.Fronts.{message_limit, total, framed, head_at, front, IsWithin};
+ghost use Rattle.giop_stream.specs.Fronts.{total, framed, head_at, header_at_front, fronted, front, IsJudgedHead, IsWithin};
 
 use crate::faults::StreamFault;
-use giop_messages::{Head, Why, read_head};
-
-/// The number of bytes of a header.
-pub const HEAD_LENGTH: usize = 12;
-
-/// The most bytes of a message with its header.
-pub const MESSAGE_LIMIT: u64 = 1048576;
+use giop_messages::{HEAD_LENGTH, Head, MESSAGE_LIMIT, Why, read_head};
 
 /// What stands at the front of the bytes of a link.
 #[derive(Clone, Copy)]
@@ -23,10 +17,10 @@ pub enum Front {
 
 fn judge(head: Head) -> Result<Head, StreamFault>
     ensures value { result ≡ framed head }
-    ensures small { IfOk result (λ h. total h ≤ message_limit) }
+    ensures small { IfOk result (λ h. total h ≤ MESSAGE_LIMIT) }
 {
-    let total = 12 + u64::from(head.size);
-    if total > MESSAGE_LIMIT {
+    let total = HEAD_LENGTH as u64 + u64::from(head.size);
+    if total > MESSAGE_LIMIT as u64 {
         return Err(StreamFault::TooLarge(total));
     }
     if !head.flags_fit() {
@@ -48,7 +42,7 @@ fn judge(head: Head) -> Result<Head, StreamFault>
 fn judged_head(bytes: &[u8]) -> Result<Head, StreamFault>
     requires { length bytes.now ≡ 12 }
     ensures value { result ≡ head_at bytes.now }
-    ensures small { IfOk result (λ h. total h ≤ message_limit) }
+    ensures small { IfOk result (λ h. total h ≤ MESSAGE_LIMIT) }
 {
     match read_head(bytes) {
         Ok(head) => judge(head),
@@ -59,21 +53,40 @@ fn judged_head(bytes: &[u8]) -> Result<Head, StreamFault>
     }
 }
 
+/// The header at the front of these bytes, if its twelve bytes are there.
+pub fn read_header(bytes: &[u8]) -> Result<Option<Head>, StreamFault>
+    ensures value { result ≡ header_at_front bytes.now }
+    ensures judged { IsJudgedHead result bytes.now }
+{
+    if bytes.len() < HEAD_LENGTH {
+        return Ok(None);
+    }
+    match judged_head(&bytes[..HEAD_LENGTH]) {
+        Ok(head) => Ok(Some(head)),
+        Err(fault) => Err(fault),
+    }
+}
+
+/// What stands at the front of these bytes, by its header.
+pub fn front_by(head: Head, bytes: &[u8]) -> Front
+    requires { total head ≤ MESSAGE_LIMIT }
+    ensures value { result ≡ fronted bytes.now (Ok head) }
+    ensures within { IsWithin result bytes.now }
+{
+    if bytes.len() < HEAD_LENGTH + head.size as usize {
+        Front::Partly
+    } else {
+        Front::Whole(head)
+    }
+}
+
 pub fn read_front(bytes: &[u8]) -> Front
     ensures value { result ≡ front bytes.now }
     ensures within { IsWithin result bytes.now }
 {
-    if bytes.len() < HEAD_LENGTH {
-        return Front::Partly;
-    }
-    match judged_head(&bytes[..HEAD_LENGTH]) {
+    match read_header(bytes) {
+        Ok(None) => Front::Partly,
+        Ok(Some(head)) => front_by(head, bytes),
         Err(fault) => Front::Wrong(fault),
-        Ok(head) => {
-            if bytes.len() < HEAD_LENGTH + head.size as usize {
-                Front::Partly
-            } else {
-                Front::Whole(head)
-            }
-        }
     }
 }

@@ -9,9 +9,13 @@ mod buffers;
 mod faults;
 mod framers;
 mod fronts;
+mod laws;
+mod sessions;
 mod tallies;
 #[cfg(test)]
 mod tests;
 
 pub use faults::StreamFault;
 pub use framers::Framer;
+pub use laws::{cut_are_joined, streams_are_spelled, written_are_streamed};
+pub use sessions::{Session, SessionStep, StreamEnd};

@@ -1,14 +1,15 @@
 //! How many bytes belong to no whole message. It is counted over headers and ids alone, and takes no memory.
 ghost use Rattle.std.specs.Prelude.{◌≡◌, ◌≤◌, ◌<◌, ◌+◌, nat_lt, if◌then◌else◌, ℕ, [], ◌∷◌, ◌++◌, length, drop, min, remove, slice_get, slice_set, Some, IfSome};
-ghost use Rattle.giop_messages.specs.Heads.{order_in, more_in};
-ghost use Rattle.giop_stream.specs.Fronts.{message_limit};
+ghost use Rattle.giop_messages.specs.Heads.{more_in};
+ghost use Rattle.giop_messages.specs.declared.heads.TheConstants.{MESSAGE_LIMIT};
+ghost use Rattle.cdr_codec.specs.Orders.{order_of};
 ghost use Rattle.giop_stream.specs.Parts.{begun_limit, capped, id_in};
 ghost use Rattle.giop_stream.specs.Tallies.{brief_place, spent_by, tally_at, tally_fragment, tally_first, tally, Left};
 
 use crate::begun::{is_fragment, read_id};
-use crate::fronts::{Front, HEAD_LENGTH, read_front};
+use crate::fronts::{Front, read_front};
 use arrayvec::ArrayVec;
-use giop_messages::Head;
+use giop_messages::{HEAD_LENGTH, Head};
 use std::marker::Model;
 
 /// Of a begun message: its id, and the number of bytes of all its parts, as far as it is counted.
@@ -96,8 +97,8 @@ impl Tally {
     /// A first part, with more to follow.
     fn begin(&mut self, head: Head, part: &[u8])
         requires long { 12 ≤ length part.now }
-        requires small { length part.now ≤ message_limit }
-        ensures { self.new ≡ tally_first self.old part.now (id_in (order_in head.flags) part.now) }
+        requires small { length part.now ≤ MESSAGE_LIMIT }
+        ensures { self.new ≡ tally_first self.old part.now (id_in (order_of head.flags) part.now) }
     {
         match read_id(head.order(), part) {
             Ok(id) => self.add(Brief {
@@ -111,7 +112,7 @@ impl Tally {
     fn grow(&mut self, at: usize, more: bool, part: &[u8])
         requires within { at < length self.old }
         requires long { 16 ≤ length part.now }
-        requires small { length part.now ≤ message_limit }
+        requires small { length part.now ≤ MESSAGE_LIMIT }
         ensures { self.new ≡ tally_at self.old at more part.now (slice_get self.old at) }
     {
         let brief = self.brief(at);
@@ -131,8 +132,8 @@ impl Tally {
 
     fn fragment(&mut self, head: Head, part: &[u8])
         requires long { 12 ≤ length part.now }
-        requires small { length part.now ≤ message_limit }
-        ensures { self.new ≡ tally_fragment self.old (more_in head.flags) part.now (id_in (order_in head.flags) part.now) }
+        requires small { length part.now ≤ MESSAGE_LIMIT }
+        ensures { self.new ≡ tally_fragment self.old (more_in head.flags) part.now (id_in (order_of head.flags) part.now) }
     {
         match read_id(head.order(), part) {
             Ok(id) => match self.place_of(id) {
@@ -147,7 +148,7 @@ impl Tally {
     #[tactic(auto, unfolding(crate::specs::Tallies::tally))]
     fn take(&mut self, head: Head, part: &[u8])
         requires long { 12 ≤ length part.now }
-        requires small { length part.now ≤ message_limit }
+        requires small { length part.now ≤ MESSAGE_LIMIT }
         ensures { self.new ≡ tally self.old head part.now }
     {
         if is_fragment(head.kind) {

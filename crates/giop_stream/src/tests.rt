@@ -1,6 +1,6 @@
 ghost use Rattle.std.specs.Prelude.{◌≡◌, ◌<◌, length};
 
-use crate::{Framer, StreamFault};
+use crate::{Framer, Session, SessionStep, StreamEnd, StreamFault};
 use cdr_codec::Order;
 use ft_base::NoMemory;
 use giop_messages::{Message, Why};
@@ -25,6 +25,22 @@ const Z2: &[u8] = b"GIOP\x01\x02\0\x07\0\0\0\x0d\0\0\0\x02\0\0\0\0\0\0\0\x01k";
 
 // A CancelRequest with id 9.
 const CANCEL: &[u8] = b"GIOP\x01\x02\0\x02\0\0\0\x04\0\0\0\x09";
+
+// A Reply with id 1 and a body, and a LocateReply with id 2, each in two parts.
+const R1: &[u8] = b"GIOP\x01\x02\x02\x01\0\0\0\x0c\0\0\0\x01\0\0\0\0\0\0\0\0";
+
+const R2: &[u8] = b"GIOP\x01\x02\0\x07\0\0\0\x0c\0\0\0\x01\0\0\0\0\0\0\0\x05";
+
+const L1: &[u8] = b"GIOP\x01\x02\x02\x04\0\0\0\x0c\0\0\0\x02\0\0\0\x01\0\0\0\0";
+
+const L2: &[u8] = b"GIOP\x01\x02\0\x07\0\0\0\x04\0\0\0\x02";
+
+// A Reply of status 5, a CloseConnection, and a MessageError.
+const ADDRESSING: &[u8] = b"GIOP\x01\x02\0\x01\0\0\0\x0c\0\0\0\x01\0\0\0\x05\0\0\0\0";
+
+const CLOSE: &[u8] = b"GIOP\x01\x02\0\x05\0\0\0\0";
+
+const ERROR: &[u8] = b"GIOP\x01\x02\0\x06\0\0\0\0";
 
 fn malformed(why: Why, place: u32) -> Option<StreamFault> {
     Some(StreamFault::Malformed { why, place })
@@ -132,7 +148,7 @@ fn two_fragments_at_every_cut(rt: HostRuntime) -> Result<(), NoMemory> {
 #[test]
 fn links_of_small_messages(rt: HostRuntime) -> Result<(), NoMemory> {
     let alloc = rt.alloc();
-    let rows: [(&[&[u8]], &[u32], Option<StreamFault>, u32); 16] = [
+    let rows: [(&[&[u8]], &[u32], Option<StreamFault>, u32); 21] = [
         (&[], &[], None, 0),
         (&[A1, A2, CANCEL, Z2, Z1], &[9, 2, 1], None, 0),
         (&[A1, E1, E1, Z1], &[1], None, 0),
@@ -168,6 +184,28 @@ fn links_of_small_messages(rt: HostRuntime) -> Result<(), NoMemory> {
             &[b"GIOP\x01\x02\x02\0\0\0\0\x05"],
             &[],
             malformed(Why::Length, 8),
+            0,
+        ),
+        // a part of 20 bytes
+        (
+            &[b"GIOP\x01\x02\x02\x03\0\0\0\x08"],
+            &[],
+            malformed(Why::Length, 8),
+            0,
+        ),
+        (
+            &[b"GIOP\x01\x02\x02\x05\0\0\0\0"],
+            &[],
+            malformed(Why::Flags, 6),
+            0,
+        ),
+        (&[L1, R1, L2, R2], &[2, 1], None, 0),
+        (&[R1, L1, CANCEL], &[9], None, 48),
+        // the flags that say nothing
+        (
+            &[b"GIOP\x01\x02\xfc\x02\0\0\0\x04\0\0\0\x09"],
+            &[9],
+            None,
             0,
         ),
         (&[A1, A1], &[], malformed(Why::Open, 12), 0),
@@ -261,5 +299,54 @@ fn a_message_that_its_last_fragment_makes_too_large(rt: HostRuntime) -> Result<(
     framer.feed(b"GIOP\x01\x02\0\x07\0\0\0\x05\0\0\0\x01\0")?;
     assert!(rt; drain(&mut framer, &mut ids)? == Some(StreamFault::TooLarge(1048577)));
     assert!(rt; ids.is_empty());
+    Ok(())
+}
+
+// The ids of the messages that are served, and the end of the link.
+fn serve(alloc: Global, link: &[u8]) -> Result<(Vec<u32>, StreamEnd), NoMemory> {
+    let mut session = Session::new(alloc);
+    let mut ids = Vec::new(alloc);
+    session.feed(link)?;
+    'messages: loop {
+        match session.next()? {
+            SessionStep::Serve(message) => ids.push(id_of(&message.0))?,
+            SessionStep::Wait => return Ok((ids, session.at_end())),
+            SessionStep::End(end) => return Ok((ids, end)),
+        }
+    }
+}
+
+#[test]
+fn sessions_of_small_links(rt: HostRuntime) -> Result<(), NoMemory> {
+    let alloc = rt.alloc();
+    let reply = StreamEnd::Malformed {
+        why: Why::Kind,
+        place: 7,
+    };
+    let cut = StreamEnd::Malformed {
+        why: Why::Cut,
+        place: 21,
+    };
+    let magic = StreamEnd::Malformed {
+        why: Why::Magic,
+        place: 0,
+    };
+    let rows: [(&[&[u8]], &[u32], StreamEnd); 9] = [
+        (&[], &[], StreamEnd::Closed),
+        (&[CANCEL, CANCEL], &[9, 9], StreamEnd::Closed),
+        (&[CANCEL, CLOSE, CANCEL, b"GIOQ"], &[9], StreamEnd::Closed),
+        (&[A1, ERROR, Z1], &[], StreamEnd::Closed),
+        (&[CANCEL, ADDRESSING, CANCEL], &[9], reply),
+        (&[R1, CANCEL, R2, CLOSE], &[9], reply),
+        (&[L1, L2], &[], reply),
+        (&[A1, CANCEL, b"GIOP\x01"], &[9], cut),
+        (&[CANCEL, b"XIOP\x01\x02\0\x02\0\0\0\x04"], &[9], magic),
+    ];
+    for (parts, wanted, end) in rows {
+        let link = joined(alloc, parts)?;
+        let (ids, ended) = serve(alloc, link.as_slice())?;
+        assert!(rt; ids.as_slice() == wanted);
+        assert!(rt; ended == end);
+    }
     Ok(())
 }

@@ -3,12 +3,12 @@ use Rattle.std.proofs.Common.{◌≡◌, ℕ, ◌<◌, Bool, true, false, cond, 
 use Rattle.std.specs.Prelude.{is_some, max, nat_le, slice_get}
 use Rattle.std.proofs.lemmas.Bool.{leb-false}
 use Rattle.ft_base.specs.Journal.{AtMostOnce, CanJoin, Entry, held}
-use Rattle.ft_base.proofs.Once.{AtMostOnce-push}
+use Rattle.ft_base.specs.Laws.{OnceGoesOn}
 use Rattle.ft_base.specs.declared.requests.Key.{Key}
 use Rattle.ft_base.specs.declared.requests.Request.{Request}
 use Rattle.group_core.specs.Servant.{machine}
 use Rattle.group_core.specs.Group.{Group, admission, against_entry, against_held, by_key, decided, ask, request_in, serve, served_or, with_operation}
-use Rattle.group_core.specs.declared.asking.Asked.{Asked}
+use Rattle.group_model.specs.declared.asking.Asked.{Asked}
 use Rattle.group_core.specs.declared.groups.Served.{Served}
 use Rattle.group_core.specs.declared.admissions.Admission.{Admission}
 use Rattle.group_core.specs.declared.admissions.Admission.TheVariants.{Expired, Same, Other, Full, New}
@@ -48,26 +48,26 @@ new_joins journal now q h =
 
 -- a request leaves at most once
 
-decided_once : (g : Group) (now : ℕ) (q : Request) (a : Admission) → admission g.journal now q ≡ a → AtMostOnce g.journal →
+decided_once : OnceGoesOn → (g : Group) (now : ℕ) (q : Request) (a : Admission) → admission g.journal now q ≡ a → AtMostOnce g.journal →
     AtMostOnce (decided g now q a).group.journal
-decided_once g now q (Expired e) is once = once
-decided_once g now q (Same i) is once = once
-decided_once g now q (Other i) is once = once
-decided_once g now q Full is once = once
-decided_once g now q New is once = AtMostOnce-push g.journal (record { at = now; request = q }) once (new_joins g.journal now q is)
+decided_once law g now q (Expired e) is once = once
+decided_once law g now q (Same i) is once = once
+decided_once law g now q (Other i) is once = once
+decided_once law g now q Full is once = once
+decided_once law g now q New is once = law g.journal (record { at = now; request = q }) once (new_joins g.journal now q is)
 
-operation_once : (g : Group) (now : ℕ) (q : Request) (b : Bool) → AtMostOnce g.journal → AtMostOnce (with_operation g now q b).group.journal
-operation_once g now q false once = once
-operation_once g now q true once = decided_once g now q (admission g.journal now q) refl once
+operation_once : OnceGoesOn → (g : Group) (now : ℕ) (q : Request) (b : Bool) → AtMostOnce g.journal → AtMostOnce (with_operation g now q b).group.journal
+operation_once law g now q false once = once
+operation_once law g now q true once = decided_once law g now q (admission g.journal now q) refl once
 
-pub serve_once : (g : Group) (clock : ℕ) (q : Request) → AtMostOnce g.journal → AtMostOnce (serve g clock q).group.journal
-serve_once g clock q once = operation_once g (max clock g.time) q (is_some (machine.signature q.op)) once
+pub serve_once : OnceGoesOn → (g : Group) (clock : ℕ) (q : Request) → AtMostOnce g.journal → AtMostOnce (serve g clock q).group.journal
+serve_once law g clock q once = operation_once law g (max clock g.time) q (is_some (machine.signature q.op)) once
 
 -- and so does a message
 
-once_or : (g : Group) (clock : ℕ) (r : Result Request Served) → AtMostOnce g.journal → AtMostOnce (served_or g clock r).group.journal
-once_or g clock (Ok q) once = serve_once g clock q once
-once_or g clock (Err served) once = once
+once_or : OnceGoesOn → (g : Group) (clock : ℕ) (r : Result Request Served) → AtMostOnce g.journal → AtMostOnce (served_or g clock r).group.journal
+once_or law g clock (Ok q) once = serve_once law g clock q once
+once_or law g clock (Err served) once = once
 
-pub ask_once : (g : Group) (host clock : ℕ) (asked : Asked) → AtMostOnce g.journal → AtMostOnce (ask g host clock asked).group.journal
-ask_once g host clock asked once = once_or g clock (request_in g host asked) once
+pub ask_once : OnceGoesOn → (g : Group) (host clock : ℕ) (asked : Asked) → AtMostOnce g.journal → AtMostOnce (ask g host clock asked).group.journal
+ask_once law g host clock asked once = once_or law g clock (request_in g host asked) once

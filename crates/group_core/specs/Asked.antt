@@ -1,17 +1,14 @@
 -- What a request's message asks of a group, and what is read of its body.
 use Rattle.std.specs.Prelude.{ℕ, ◌+◌, ◌-◌, ◌<◌, ◌^◌, List, length, Option, Some, None, Result, Ok, Err, unwrap_or}
 use Rattle.ft_base.specs.declared.numbers.Version.{Version}
-use Rattle.ft_base.specs.declared.requests.Par.{Par}
-use Rattle.ft_base.specs.declared.requests.Signature.{Signature}
 use Rattle.cdr_codec.specs.declared.bodies.Raw.{Raw}
-use Rattle.cdr_codec.specs.Arguments.{Value, body_reader, canonical, pars_of, values_at}
 use Rattle.ft_contexts.specs.Contents.{name_of}
 use Rattle.ft_contexts.specs.Finding.{contexts_of}
 use Rattle.ft_contexts.specs.declared.lists.Context.{Context}
 use Rattle.ft_contexts.specs.declared.lists.FtContexts.{FtContexts}
 use Rattle.ft_contexts.specs.declared.faults.ContextFault.{ContextFault}
 use Rattle.ft_contexts.specs.declared.faults.ContextFault.TheVariants.{Twice, Bad, NoMemory}
-use Rattle.group_core.specs.declared.asking.Asked.{Asked}
+use Rattle.group_model.specs.declared.asking.Asked.{Asked}
 
 -- the context at fault
 abbrev pub fault_id : ContextFault → Option ℕ
@@ -41,12 +38,3 @@ asked_version asked = unwrap_or asked.version first_version
 -- a body whose places fit an unsigned long
 abbrev pub IsShortBody : Raw → Type 0
 IsShortBody body = body.align + length body.bytes + 8 < 2 ^ 32
-
--- the canonical form of the values that are read, or the place at which reading stops, counted from the
--- body's first byte
-abbrev pub args_by : Raw → List Par → Result (List Value) ℕ → Result (List ℕ) ℕ
-args_by body pars (Ok values) = Ok (canonical pars values)
-args_by body pars (Err at) = Err (at - body.align)
-
-unfoldable pub args_read : Raw → Signature → Result (List ℕ) ℕ
-args_read body signature = args_by body (pars_of signature) (values_at (body_reader body) (pars_of signature))

@@ -4,6 +4,7 @@ use Rattle.std.specs.Prelude.{ℕ, ◌+◌, ◌==◌, ◌&&◌, not, Bool, true,
 use Rattle.std.specs.Str.{bytes_eq}
 use Rattle.ft_base.specs.Machine.{FitsAs, IsGivenAs}
 use Rattle.ft_base.specs.Journal.{Entry, held, reply_at}
+use Rattle.ft_base.specs.declared.limits.TheConstants.{ARGUMENTS_LIMIT, JOURNAL_LIMIT}
 use Rattle.ft_base.specs.declared.requests.Key.{Key}
 use Rattle.ft_base.specs.declared.requests.Request.{Request}
 use Rattle.ft_base.specs.declared.requests.Signature.{Signature}
@@ -16,8 +17,9 @@ use Rattle.sys_faults.specs.declared.faults.SysKind.TheVariants as kinds
 use Rattle.sys_faults.specs.declared.faults.Completed.TheVariants.{No}
 use Rattle.cdr_codec.specs.declared.bodies.Raw.{Raw}
 use Rattle.group_core.specs.Servant.{machine, opening}
-use Rattle.group_core.specs.Asked.{args_read, asked_version, first_version}
-use Rattle.group_core.specs.declared.asking.Asked.{Asked}
+use Rattle.group_model.specs.declared.asking.Asked.{Asked}
+use Rattle.group_model.specs.Asking.{args_read}
+use Rattle.group_core.specs.Asked.{asked_version, first_version}
 use Rattle.group_core.specs.declared.groups.Served.{Served as Refused}
 use Rattle.group_core.specs.declared.admissions.Admission.{Admission}
 use Rattle.group_core.specs.declared.admissions.Admission.TheVariants.{Expired, Same, Other, Full, New}
@@ -30,10 +32,6 @@ pub record Group : Type 0 where
   pub journal : List Entry
   pub position : ℕ
   pub time : ℕ
-
--- the most entries of a journal
-abbrev pub journal_limit : ℕ
-journal_limit = 262144
 
 -- a request says the same as another: operation, arguments and expiration
 abbrev pub expires_at : ℕ → Option Key → Bool
@@ -48,7 +46,7 @@ says_same request key other =
 -- holds its retention id and says the same, or something else; the journal is full; it is new. Without a
 -- key only the last two are left.
 abbrev pub by_room : List Entry → Admission
-by_room journal = if nat_le journal_limit (length journal) then Full else New
+by_room journal = if nat_le JOURNAL_LIMIT (length journal) then Full else New
 
 abbrev pub against_entry : ℕ → Request → Key → Option Entry → Admission
 against_entry i request key None = Other i
@@ -103,7 +101,7 @@ decided group now request (Expired expiration) =
 decided group now request (Same i) =
     without_change group (decisions.Repeat i) (answers.Done (reply_at machine opening group.journal i))
 decided group now request (Other i) = without_change group (decisions.Other i) (refusal kinds.BadContext 2)
-decided group now request Full = without_change group (decisions.Full journal_limit) (refusal kinds.NoResources 1)
+decided group now request Full = without_change group (decisions.Full JOURNAL_LIMIT) (refusal kinds.NoResources 1)
 decided group now request New = accepted group now request
 
 abbrev pub with_operation : Group → ℕ → Request → Bool → Served
@@ -154,13 +152,9 @@ rows group host asked =
     ∷ row (nat_lt (asked_version asked).0 first_version.0) (decisions.Older (asked_version asked) first_version) (answers.ForwardPerm first_version)
     ∷ row (not (host == group.host)) (decisions.Stranger first_version) (refusal kinds.ObjectNotExist 2) ∷ []
 
--- the most bytes of arguments in canonical form
-abbrev pub args_limit : ℕ
-args_limit = 4096
-
 abbrev pub short_args : List ℕ → Result (List ℕ) Refused
 short_args args =
-    if nat_lt args_limit (length args) then Err (refused_as (decisions.Long (length args)) (refusal kinds.ImpLimit 1))
+    if nat_lt ARGUMENTS_LIMIT (length args) then Err (refused_as (decisions.Long (length args)) (refusal kinds.ImpLimit 1))
     else Ok args
 
 -- the rows behind the operation: its body is its parameters, and no more of them than may be

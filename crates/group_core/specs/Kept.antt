@@ -7,7 +7,8 @@ use Rattle.group_core.specs.Servant.{machine, opening}
 use Rattle.sys_faults.specs.declared.answers.Answer.{Answer}
 use Rattle.sys_faults.specs.declared.answers.Answer.TheVariants as answers
 use Rattle.group_core.specs.Group as plain
-use Rattle.group_core.specs.Group.{Group, journal_limit}
+use Rattle.ft_base.specs.declared.limits.TheConstants.{JOURNAL_LIMIT}
+use Rattle.group_core.specs.Group.{Group}
 use Rattle.group_core.specs.declared.groups.Kept.{Kept}
 use Rattle.group_core.specs.declared.table.AskFault.{AskFault}
 use Rattle.group_core.specs.declared.table.AskFault.TheVariants as faults
@@ -32,7 +33,7 @@ group_of a = record {
 -- what is kept is what the journal says: every request may be run, each reply is that request's one reply,
 -- and the state is the one after all of them
 pub record StandsFor (kept : List Kept) (state : List ℕ) : Type 0 where
-  pub short : length kept ≤ journal_limit
+  pub short : length kept ≤ JOURNAL_LIMIT
   pub fits : AllFit machine (entries_of kept)
   pub given : map (λ k. k.reply) kept ≡ replies machine opening (entries_of kept)
   pub reached : state ≡ after machine opening (entries_of kept)

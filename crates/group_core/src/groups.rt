@@ -8,15 +8,13 @@ ghost use Rattle.group_core.specs.Kept.{entries_of, IsAnswerAt, IsCountedWithin,
 use crate::admissions::Admission;
 use crate::members::Member;
 use ft_base::{
-    Bytes, Decision, HostNo, Key, Name, NoMemory, Outcome, Request, Signature, Steps, Tick,
+    Bytes, Decision, HostNo, JOURNAL_LIMIT, Key, Name, NoMemory, Outcome, Request, Signature,
+    Steps, Tick, replies_are_given, requests_join,
 };
 use std::alloc::Global;
 use std::marker::Model;
 use std::sync::ledger::Ledger;
 use sys_faults::{Answer, Completed, SysFault, SysKind};
-
-/// The most entries of a group's journal.
-pub const JOURNAL_LIMIT: usize = 262_144;
 
 /// An accepted request, when it was accepted, and its one reply.
 #[derive(Drop)]
@@ -104,6 +102,7 @@ fn newest_held(kept: &[Kept], key: &Key, now: Tick) -> Option<usize>
     ensures place { result ≡ held (entries_of kept.now) key.now now.0 }
     ensures within { IfSome result (λ place. place < length kept.now) }
 {
+    requests_join();
     let mut found = None;
     for (place, kept) in kept.iter().enumerate() {
         if is_held_by(now, key, &kept.request.key) {
@@ -233,6 +232,7 @@ impl Group {
             outcome ≡ reply_at machine opening self.now.journal place) }
         ensures given { IfOk result (λ outcome. IsGivenAt self.now.journal place outcome) }
     {
+        replies_are_given();
         self.kept[place as usize].reply.copy(alloc)
     }
 
@@ -253,6 +253,7 @@ impl Group {
         ensures counted { OnOk result (steps.new ≡ steps.old + 1) }
         ensures failed { OnErr result (IsCountedWithin 1 steps.old steps.new) }
     {
+        requests_join();
         self.kept.reserve(1)?;
         let outcome = self.member.run(alloc, &request, steps)?;
         let copy = outcome.copy(alloc);

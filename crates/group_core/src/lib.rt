@@ -6,14 +6,16 @@
 mod admissions;
 mod asking;
 mod groups;
+mod laws;
 mod members;
 mod table;
 
 pub use admissions::Admission;
-pub use asking::{Asked, asked_of};
-pub use groups::{Group, JOURNAL_LIMIT, Served};
+pub use asking::asked_of;
+pub use group_model::Asked;
+pub use groups::{Group, Served};
+pub use laws::requests_keep_once;
 pub use members::Member;
-pub use table::ARGS_LIMIT;
 
 #[cfg(test)]
 mod tests;

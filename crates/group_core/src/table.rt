@@ -3,20 +3,20 @@ ghost use Rattle.std.specs.Prelude.{◌≡◌, ◌+◌, ◌<◌, ◌≤◌, ◌^
 ghost use Rattle.ft_base.specs.Canonical.{IsCanonical};
 ghost use Rattle.cdr_codec.specs.Arguments.{pars_of};
 ghost use Rattle.group_core.specs.Servant.{machine};
-ghost use Rattle.group_core.specs.Asked.{IsShortBody, args_read, asked_version};
+ghost use Rattle.group_model.specs.Asking.{args_read};
+ghost use Rattle.group_core.specs.Asked.{IsShortBody, asked_version};
 ghost use Rattle.group_core.specs.Group.{IsAnswer, IsNoOutcome, MayServe, args_for, ask, first_row, no_operation, request_in, rows, short_args, signature_asked, taken_args};
 ghost use Rattle.group_core.specs.Kept.{Comes, IsCountedWithin, IsServed, OnRefused};
 
-use crate::asking::Asked;
 use crate::groups::{Group, Served, refused};
 use cdr_codec::{ArgsFault, Raw, args_of};
-use ft_base::{Bytes, Decision, HostNo, NoMemory, Request, Signature, Steps, Tick, Version};
+use ft_base::{
+    ARGUMENTS_LIMIT, Bytes, Decision, HostNo, NoMemory, Request, Signature, Steps, Tick, Version,
+};
+use group_model::Asked;
 use std::alloc::Global;
 use std::sync::ledger::Ledger;
 use sys_faults::{Answer, SysKind};
-
-/// The most bytes of a request's arguments in canonical form.
-pub const ARGS_LIMIT: usize = 4096;
 
 // So far every group has its first version, which is the newest and known to its host.
 const FIRST: Version = Version(1);
@@ -45,7 +45,7 @@ fn short_args(args: Bytes) -> Result<Bytes, AskFault>
     ensures refused { OnRefused result (λ served. IsNoOutcome served.answer) }
 {
     let count = args.bytes().len();
-    if count > ARGS_LIMIT {
+    if count > ARGUMENTS_LIMIT {
         return Err(AskFault::Refused(refused(Decision::Long(count as u32), SysKind::ImpLimit, 1)));
     }
     Ok(args)

@@ -1,4 +1,1 @@
-pub mod Lengths
-pub mod ValueLaws
-pub mod BodyLaws
 pub mod ReplyLaws

@@ -1,24 +1,23 @@
 -- Replies can be written: with its header none is over 1 MiB.
-use Rattle.std.proofs.Common.{◌≡◌, ◌≤◌, ◌<◌, ℕ, ◌+◌, List, [], ◌∷◌, ◌++◌, length, replicate, refl, length-append, arith, lit≤, lit<}
+use Rattle.std.proofs.Common.{◌≡◌, ◌≤◌, ℕ, ◌+◌, true, false, List, [], ◌∷◌, ◌++◌, length, replicate, refl, length-append, arith, lit≤, lit<}
 use Rattle.std.proofs.lemmas.List.{length-replicate}
 use Rattle.ft_base.specs.Canonical.{padding}
+use Rattle.ft_base.specs.declared.requests.Outcome.TheVariants.{Value, User}
 use Rattle.cdr_codec.specs.declared.orders.Order.{Order}
 use Rattle.cdr_codec.specs.declared.orders.Order.TheVariants.{Big, Little}
-use Rattle.cdr_codec.specs.Encapsulations.{order_sign}
-use Rattle.giop_messages.specs.declared.heads.Kind.{Kind}
+use Rattle.giop_messages.specs.declared.heads.TheConstants.{HEAD_LENGTH}
 use Rattle.giop_messages.specs.declared.heads.Kind.TheVariants as kinds
 use Rattle.giop_messages.specs.declared.messages.Message.TheVariants as messages
 use Rattle.giop_messages.specs.declared.messages.ReplyMsg.{ReplyMsg}
 use Rattle.giop_messages.specs.Heads.{header}
-use Rattle.giop_messages.specs.Fields.{reply_head}
+use Rattle.giop_messages.specs.Fields.{reply_statuses, reply_head}
 use Rattle.giop_messages.specs.Messages.{head_of_reply}
-use Rattle.giop_messages.specs.Writing.{padded_body, written_message, Writable}
-use Rattle.host_server.specs.Replies.{IsShortBody}
+use Rattle.giop_messages.specs.Writing.{padded_body, whole_head, written_message, IsAmong, Writable}
+use Rattle.host_server.specs.declared.answers.PortAnswer.{PortAnswer}
+use Rattle.host_server.specs.declared.answers.PortAnswer.TheVariants.{NoGroup, Forward, Done, System}
+use Rattle.host_server.specs.Replies.{status_of, IsShortBody}
 
-abbrev headed : Order → Kind → ℕ → List ℕ
-headed order kind size = header.written Big 0 (record { flags = order_sign order; kind = kind; size = size })
-
-reply_headed : (order : Order) (size : ℕ) → length (headed order kinds.Reply size) ≡ 12
+reply_headed : (order : Order) (size : ℕ) → length (header.written Big 0 (whole_head order kinds.Reply size)) ≡ HEAD_LENGTH
 reply_headed Big size = refl
 reply_headed Little size = refl
 
@@ -43,7 +42,7 @@ reply_sized id status order bytes h =
     let size = length (front ++ body) in
     omega (
       arith,
-      length-append (headed order kinds.Reply size) (front ++ body),
+      length-append (header.written Big 0 (whole_head order kinds.Reply size)) (front ++ body),
       length-append front body,
       reply_headed order size,
       fields_length order id status,
@@ -51,14 +50,22 @@ reply_sized id status order bytes h =
       h,
     )
 
-pub reply_writable : (id status : ℕ) (order : Order) (bytes : List ℕ) → status < 6 → IsShortBody bytes
-    → Writable (messages.Reply (a_reply id status order bytes)) order
-reply_writable id status order bytes small short = record {
+-- what an answer's status is has a Reply
+status_among : (answer : PortAnswer) → IsAmong reply_statuses (status_of answer)
+status_among NoGroup = refl
+status_among (Forward true body) = refl
+status_among (Forward false body) = refl
+status_among (Done (Value value) gives) = refl
+status_among (Done (User name) gives) = refl
+status_among (System fault) = refl
+
+pub reply_writable : (id : ℕ) (order : Order) (answer : PortAnswer) (bytes : List ℕ) → IsShortBody bytes
+    → Writable (messages.Reply (a_reply id (status_of answer) order bytes)) order
+reply_writable id order answer bytes short = record {
   fields = record {
-    status = small;
-    count = lit< tt;
-    contents = λ k d h. absurd (omega arith);
+    status = status_among answer;
+    contexts = record { count = lit< tt; contents = λ k d h. absurd (omega arith) };
     body = record { ordered = refl; aligned = refl; short = omega arith };
   };
-  sized = reply_sized id status order bytes short;
+  sized = reply_sized id (status_of answer) order bytes short;
 }

@@ -1,21 +1,25 @@
 -- What a request is answered, as a Reply. (GIOP chapter, "Reply Message", "Reply Body".)
-use Rattle.std.specs.Prelude.{◌≤◌, ℕ, Bool, List, [], ◌++◌, length, codes, if◌then◌else◌, Option}
+use Rattle.std.specs.Prelude.{◌≤◌, ℕ, Bool, List, [], length, if◌then◌else◌, Option}
+use Rattle.ft_base.specs.Canonical.{IsCanonical, one_of}
+use Rattle.ft_base.specs.declared.limits.TheConstants.{RESULT_LIMIT}
 use Rattle.ft_base.specs.declared.requests.Par.{Par}
 use Rattle.ft_base.specs.declared.requests.Outcome.{Outcome}
 use Rattle.ft_base.specs.declared.requests.Outcome.TheVariants.{Value, User}
 use Rattle.cdr_codec.specs.declared.orders.Order.{Order}
 use Rattle.cdr_codec.specs.Values.{text}
+use Rattle.cdr_codec.specs.Arguments.{reordered}
 use Rattle.sys_faults.specs.declared.faults.Completed.TheVariants.{No}
 use Rattle.sys_faults.specs.declared.faults.SysKind.TheVariants.{ObjectNotExist}
 use Rattle.sys_faults.specs.declared.faults.SysFault.{SysFault}
-use Rattle.sys_faults.specs.Bodies.{fields, fields_of, IsOtherId, OnUnknown}
+use Rattle.sys_faults.specs.Bodies.{told, told_of, IsOtherId, OnUnknown}
 use Rattle.iogr_reference.specs.declared.references.Ior.{Ior}
+use Rattle.iogr_reference.specs.Choices.{repository_id}
 use Rattle.iogr_reference.specs.Formats.{ior, IsWritable}
+use Rattle.giop_messages.specs.declared.statuses.TheConstants.{NO_EXCEPTION, USER_EXCEPTION, SYSTEM_EXCEPTION, LOCATION_FORWARD, LOCATION_FORWARD_PERM, UNKNOWN_OBJECT, OBJECT_HERE}
 use Rattle.giop_messages.specs.declared.messages.Message.{Message}
 use Rattle.giop_messages.specs.declared.messages.Message.TheVariants.{Reply, LocateReply}
 use Rattle.host_server.specs.declared.answers.PortAnswer.{PortAnswer}
 use Rattle.host_server.specs.declared.answers.PortAnswer.TheVariants.{NoGroup, Forward, Done, System}
-use Rattle.host_server.specs.Results.{value_in, IsResult}
 
 -- ---- bodies
 
@@ -23,16 +27,13 @@ use Rattle.host_server.specs.Results.{value_in, IsResult}
 abbrev pub no_group : SysFault
 no_group = record { kind = ObjectNotExist; minor = 1; completed = No }
 
--- the repository id of a user exception
-abbrev pub user_id : List ℕ → List ℕ
-user_id name = codes "IDL:ftc/" ++ name ++ codes ":1.0"
-
 abbrev pub fault_body : Order → SysFault → List ℕ
-fault_body order fault = fields.written order 0 (fields_of fault)
+fault_body order fault = told.written order 0 (told_of fault)
 
+-- a result from its canonical form into this byte order, or the repository id of a user exception
 abbrev pub outcome_body : Order → Option Par → Outcome → List ℕ
-outcome_body order gives (Value value) = value_in order gives value
-outcome_body order gives (User name) = text.written order 0 (user_id name)
+outcome_body order gives (Value value) = reordered order (one_of gives) value
+outcome_body order gives (User name) = text.written order 0 (repository_id name)
 
 abbrev pub body_of : Order → PortAnswer → List ℕ
 body_of order NoGroup = fault_body order no_group
@@ -46,24 +47,21 @@ IsShortBody bytes = length bytes ≤ 131072
 
 -- ---- statuses
 
--- NO_EXCEPTION or USER_EXCEPTION
 abbrev pub outcome_status : Outcome → ℕ
-outcome_status (Value value) = 0
-outcome_status (User name) = 1
+outcome_status (Value value) = NO_EXCEPTION
+outcome_status (User name) = USER_EXCEPTION
 
--- LOCATION_FORWARD_PERM or LOCATION_FORWARD
 abbrev pub forward_status : Bool → ℕ
-forward_status perm = if perm then 4 else 3
+forward_status perm = if perm then LOCATION_FORWARD_PERM else LOCATION_FORWARD
 
 abbrev pub status_of : PortAnswer → ℕ
-status_of NoGroup = 2
+status_of NoGroup = SYSTEM_EXCEPTION
 status_of (Forward perm body) = forward_status perm
 status_of (Done outcome gives) = outcome_status outcome
-status_of (System fault) = 2
+status_of (System fault) = SYSTEM_EXCEPTION
 
--- OBJECT_HERE or UNKNOWN_OBJECT
 abbrev pub locate_status_of : Bool → ℕ
-locate_status_of here = if here then 1 else 0
+locate_status_of here = if here then OBJECT_HERE else UNKNOWN_OBJECT
 
 -- ---- messages
 
@@ -89,6 +87,11 @@ pub record IsShortId (id : List ℕ) : Type 0 where
 pub record IsForward (order : Order) (body : Ior) : Type 0 where
   pub writable : IsWritable body
   pub short : length (ior.written order 0 body) ≤ 65536
+
+-- the canonical form of a result, as a servant gives it
+pub record IsResult (gives : Option Par) (value : List ℕ) : Type 0 where
+  pub canonical : IsCanonical (one_of gives) value
+  pub short : length value ≤ RESULT_LIMIT
 
 abbrev pub CanGive : Option Par → Outcome → Type 0
 CanGive gives (Value value) = IsResult gives value

@@ -1,16 +1,15 @@
 //! The bodies of replies (GIOP chapter, "Reply Body").
-ghost use Rattle.std.specs.Prelude.{◌≡◌, ◌≤◌, ◌++◌, length, codes, IfOk, None};
-ghost use Rattle.ft_base.specs.Text.{IsName, zero_place};
+ghost use Rattle.std.specs.Prelude.{◌≡◌, IfOk};
 ghost use Rattle.cdr_codec.specs.Values.{text};
 ghost use Rattle.sys_faults.specs.Bodies.{OnUnknown};
+ghost use Rattle.iogr_reference.specs.Choices.{repository_id};
 ghost use Rattle.iogr_reference.specs.Formats.{ior};
-ghost use Rattle.host_server.specs.Replies.{no_group, user_id, fault_body, outcome_body, body_of, IsShortBody, IsShortId, IsForward, CanGive, CanReply};
+ghost use Rattle.host_server.specs.Replies.{no_group, fault_body, outcome_body, body_of, IsShortBody, IsShortId, IsForward, CanGive, CanReply};
 
 use crate::answers::PortAnswer;
-use crate::values::value_bytes;
-use cdr_codec::{CdrWriter, Order};
+use cdr_codec::{CdrWriter, Order, result_in};
 use ft_base::{Bytes, Name, NoMemory, Outcome, Par};
-use iogr_reference::{Ior, write_ior};
+use iogr_reference::{Ior, repository_id, write_ior};
 use std::alloc::Global;
 use sys_faults::{Completed, SysFault, SysKind, write_fault};
 
@@ -32,24 +31,11 @@ fn system_body(alloc: Global, order: Order, fault: &SysFault) -> Result<Bytes, N
     write_fault(alloc, fault, order)
 }
 
-/// The repository id of a user exception.
-#[tactic(auto, using(crate::proofs::BodyLaws::id_no_zero, crate::proofs::BodyLaws::id_short))]
-fn user_id(alloc: Global, name: &Name) -> Result<Bytes, NoMemory>
-    ensures value { IfOk result (λ id. id ≡ user_id name.now) }
-    ensures no_zero { IfOk result (λ id. zero_place id ≡ None) }
-    ensures short { IfOk result (λ id. length id ≤ 267) }
-{
-    let mut id = Vec::from_slice(alloc, b"IDL:ftc/")?;
-    id.extend_from_slice(name.bytes())?;
-    id.extend_from_slice(b":1.0")?;
-    Ok(Bytes::from_vec(id))
-}
-
 fn user_body(alloc: Global, order: Order, name: &Name) -> Result<Bytes, NoMemory>
-    ensures value { IfOk result (λ bytes. bytes ≡ text.written order 0 (user_id name.now)) }
+    ensures value { IfOk result (λ bytes. bytes ≡ text.written order 0 (repository_id name.now)) }
     ensures short { IfOk result IsShortBody }
 {
-    let id = user_id(alloc, name)?;
+    let id = repository_id(alloc, name)?;
     let mut writer = CdrWriter::new(alloc, order, 0);
     writer.write_string(id.bytes())?;
     Ok(writer.finish())
@@ -76,7 +62,7 @@ fn outcome_bytes(
     ensures short { IfOk result IsShortBody }
 {
     match outcome {
-        Outcome::Value(value) => value_bytes(alloc, order, gives, value.bytes()),
+        Outcome::Value(value) => result_in(alloc, order, gives, value.bytes()),
         Outcome::User(name) => user_body(alloc, order, name),
     }
 }

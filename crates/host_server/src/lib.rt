@@ -7,7 +7,6 @@ mod bodies;
 mod replies;
 #[cfg(test)]
 mod tests;
-mod values;
 
 pub use answers::PortAnswer;
 pub use replies::{locate_reply_bytes, message_error_bytes, reply_bytes};

@@ -9,27 +9,39 @@ use crate::bodies::body_bytes;
 use cdr_codec::{Order, Raw};
 use ft_base::{Bytes, NoMemory, Outcome};
 use ft_contexts::Contexts;
-use giop_messages::{Message, ReplyMsg, write_message};
+use giop_messages::{
+    LOCATION_FORWARD, LOCATION_FORWARD_PERM, Message, NO_EXCEPTION, OBJECT_HERE, ReplyMsg,
+    SYSTEM_EXCEPTION, UNKNOWN_OBJECT, USER_EXCEPTION, write_message,
+};
 use std::alloc::Global;
 
 fn outcome_status(outcome: &Outcome) -> u32
     ensures { result ≡ outcome_status outcome.now }
 {
     match outcome {
-        Outcome::Value(_) => 0,
-        Outcome::User(_) => 1,
+        Outcome::Value(_) => NO_EXCEPTION,
+        Outcome::User(_) => USER_EXCEPTION,
+    }
+}
+
+fn forward_status(perm: bool) -> u32
+    ensures { result ≡ forward_status perm }
+{
+    if perm {
+        LOCATION_FORWARD_PERM
+    } else {
+        LOCATION_FORWARD
     }
 }
 
 fn status_of(answer: &PortAnswer) -> u32
-    ensures value { result ≡ status_of answer.now }
-    ensures small { result < 6 }
+    ensures { result ≡ status_of answer.now }
 {
     match answer {
-        PortAnswer::NoGroup => 2,
-        PortAnswer::Forward { perm, body: _ } => if *perm { 4 } else { 3 },
+        PortAnswer::NoGroup => SYSTEM_EXCEPTION,
+        PortAnswer::Forward { perm, body: _ } => forward_status(*perm),
         PortAnswer::Done { outcome, gives: _ } => outcome_status(outcome),
-        PortAnswer::System(_) => 2,
+        PortAnswer::System(_) => SYSTEM_EXCEPTION,
     }
 }
 
@@ -69,7 +81,7 @@ pub fn locate_reply_bytes(
 ) -> Result<Bytes, NoMemory>
     ensures { IfOk result (λ bytes. bytes ≡ written_message (locate_reply_to id here) order) }
 {
-    let status = if here { 1 } else { 0 };
+    let status = if here { OBJECT_HERE } else { UNKNOWN_OBJECT };
     let reply = Message::LocateReply(id, status);
     write_message(alloc, &reply, order)
 }

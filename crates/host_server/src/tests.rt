@@ -1,13 +1,13 @@
-ghost use Rattle.std.specs.Prelude.{Some, IfOk};
+ghost use Rattle.std.specs.Prelude.{◌≡◌, Some, IfOk};
 ghost use Rattle.ft_base.specs.declared.requests.Par.TheVariants as pars;
 ghost use Rattle.cdr_codec.specs.declared.orders.Order.TheVariants.{Big};
-ghost use Rattle.host_server.specs.Replies.{CanReply, IsForward};
-ghost use Rattle.host_server.specs.Results.{IsResult};
+ghost use Rattle.sys_faults.specs.declared.faults.Completed.TheVariants.{No};
+ghost use Rattle.host_server.specs.Replies.{CanReply, IsForward, IsResult};
 
 use crate::{PortAnswer, locate_reply_bytes, message_error_bytes, reply_bytes};
-use cdr_codec::{CdrWriter, Order};
-use ft_base::{Bytes, Name, NoMemory, Outcome, Par};
-use iogr_reference::{Ior, Profiles};
+use cdr_codec::{CdrWriter, Order, canonical};
+use ft_base::{Bytes, Name, NoMemory, Outcome, Par, Value};
+use iogr_reference::{Ior, Profile, Profiles};
 use std::alloc::Global;
 use sys_faults::{Completed, SysFault, SysKind};
 
@@ -35,6 +35,30 @@ const BAD_CONTEXT: &str = concat!(
     "00000300000001000000",
 );
 
+// What a host answers that knows an older view, and one that is asked with too long arguments.
+const INV_OBJREF: &str = concat!(
+    "47494f50010200010000003c000000030000000200000000",
+    "0000002149444c3a6f6d672e6f72672f434f5242412f",
+    "494e565f4f424a5245463a312e3000000000",
+    "0000000100000001",
+);
+
+const IMP_LIMIT: &str = concat!(
+    "47494f500102000100000038000000040000000200000000",
+    "0000002049444c3a6f6d672e6f72672f434f5242412f",
+    "494d505f4c494d49543a312e3000",
+    "0000000100000001",
+);
+
+// The reference to an account of group 1 at 127.0.0.1 and port 2000.
+const FORWARD_ACCOUNT: &str = concat!(
+    "47494f500102000100000058000000020000000300000000",
+    "0000001449444c3a6674632f4163636f756e743a312e3000",
+    "000000010000000000000028",
+    "000102000000000a3132372e302e302e310007d0",
+    "0000000c46544f47000000000000000100000000",
+);
+
 // The reference to no object.
 const FORWARD: &str = "47494f500102000100000018000000020000000300000000000000010000000000000000";
 
@@ -59,12 +83,11 @@ fn is_replied(
     is_hex(alloc, &bytes, text)
 }
 
-fn number(alloc: Global, n: u64) -> Result<Bytes, NoMemory>
+fn number(alloc: Global, n: i64) -> Result<Bytes, NoMemory>
     ensures { IfOk result (IsResult (Some pars.I64)) }
 {
-    let mut writer = CdrWriter::new(alloc, Order::Big, 0);
-    writer.write_u64(n)?;
-    Ok(writer.finish())
+    let bytes = canonical(alloc, &[Value::I64(n)])?;
+    Ok(bytes)
 }
 
 #[test]
@@ -93,16 +116,26 @@ fn a_user_exception(rt: HostRuntime) -> Result<(), NoMemory> {
     Ok(())
 }
 
+fn system(kind: SysKind, minor: u32) -> PortAnswer
+    ensures { result ≡ PortAnswer.System (record { kind = kind; minor = minor; completed = No }) }
+{
+    PortAnswer::System(SysFault {
+        kind,
+        minor,
+        completed: Completed::No,
+    })
+}
+
 #[test]
 fn system_exceptions(rt: HostRuntime) -> Result<(), NoMemory> {
     let alloc = rt.alloc();
+    let bad_context = system(SysKind::BadContext, 3);
+    let inv_objref = system(SysKind::InvObjref, 1);
+    let imp_limit = system(SysKind::ImpLimit, 1);
     assert!(rt; is_replied(alloc, 0, Order::Big, &PortAnswer::NoGroup, NO_GROUP)?);
-    let answer = PortAnswer::System(SysFault {
-        kind: SysKind::BadContext,
-        minor: 3,
-        completed: Completed::No,
-    });
-    assert!(rt; is_replied(alloc, 8, Order::Little, &answer, BAD_CONTEXT)?);
+    assert!(rt; is_replied(alloc, 8, Order::Little, &bad_context, BAD_CONTEXT)?);
+    assert!(rt; is_replied(alloc, 3, Order::Big, &inv_objref, INV_OBJREF)?);
+    assert!(rt; is_replied(alloc, 4, Order::Big, &imp_limit, IMP_LIMIT)?);
     Ok(())
 }
 
@@ -115,9 +148,29 @@ fn nil(alloc: Global) -> Ior
     }
 }
 
+fn account(alloc: Global) -> Result<Ior, NoMemory>
+    ensures { IfOk result (IsForward Big) }
+{
+    let mut profiles = Vec::new(alloc);
+    let content = Bytes::of(
+        alloc,
+        b"\0\x01\x02\0\0\0\0\x0a127.0.0.1\0\x07\xd0\0\0\0\x0cFTOG\0\0\0\0\0\0\0\x01\0\0\0\0",
+    )?;
+    profiles.push(Profile { tag: 0, content })?;
+    Ok(Ior {
+        type_id: Bytes::of(alloc, b"IDL:ftc/Account:1.0")?,
+        profiles: Profiles::from_vec(profiles),
+    })
+}
+
 #[test]
 fn forwards(rt: HostRuntime) -> Result<(), NoMemory> {
     let alloc = rt.alloc();
+    let answer = PortAnswer::Forward {
+        perm: false,
+        body: account(alloc)?,
+    };
+    assert!(rt; is_replied(alloc, 2, Order::Big, &answer, FORWARD_ACCOUNT)?);
     for (perm, text) in [(false, FORWARD), (true, FORWARD_PERM)] {
         let answer = PortAnswer::Forward {
             perm,

@@ -1,5 +1,10 @@
+pub mod OctetLaws
+pub mod KeyLaws
 pub mod Codecs
 pub mod GroupLemmas
+pub mod ListLemmas
+pub mod NamingLaws
 pub mod ViewLemmas
 pub mod ViewLaws
 pub mod TextLaws
+pub mod WritingLaws

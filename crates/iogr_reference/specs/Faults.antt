@@ -1,27 +1,44 @@
--- What the faults of this crate say.
+-- What the calls of this crate answer where they refuse.
 use Rattle.std.specs.Prelude.{◌≡◌, Option, Some, None, Result, Ok, Err}
-use Rattle.cdr_codec.specs.declared.faults.CdrWhy.{CdrWhy}
-use Rattle.cdr_codec.specs.Reading.{Fault}
-use Rattle.cdr_codec.specs.Calls.{fault}
-use Rattle.iogr_reference.specs.declared.faults.IorFault.{IorFault}
-use Rattle.iogr_reference.specs.declared.faults.IorFault.TheVariants as faults
+use Rattle.cdr_codec.specs.declared.faults.FieldFault.{FieldFault}
+use Rattle.cdr_codec.specs.declared.faults.FieldFault.TheVariants as fields
 use Rattle.iogr_reference.specs.declared.faults.RefFault.{RefFault}
 use Rattle.iogr_reference.specs.declared.faults.RefFault.TheVariants as refusals
+use Rattle.iogr_reference.specs.declared.faults.TextFault.{TextFault}
+use Rattle.iogr_reference.specs.declared.faults.TextFault.TheVariants as texts
 
--- the first value that could not be read; none for want of memory
-abbrev pub ior_fault : IorFault → Option (Fault CdrWhy)
-ior_fault (faults.Bad wrong) = Some (fault wrong)
-ior_fault faults.NoMemory = None
+abbrev pub ref_fault : FieldFault → RefFault
+ref_fault (fields.Bad wrong) = refusals.Bad wrong
+ref_fault fields.NoMemory = refusals.NoMemory
 
-abbrev pub ref_fault : IorFault → RefFault
-ref_fault (faults.Bad wrong) = refusals.Bad wrong
-ref_fault faults.NoMemory = refusals.NoMemory
+-- the refusal; none for want of memory
+abbrev pub ref_refusal : RefFault → Option RefFault
+ref_refusal (refusals.Bad wrong) = Some (refusals.Bad wrong)
+ref_refusal refusals.NotAGroup = Some refusals.NotAGroup
+ref_refusal (refusals.Unequal place) = Some (refusals.Unequal place)
+ref_refusal refusals.TwoPrimaries = Some refusals.TwoPrimaries
+ref_refusal refusals.NoMemory = None
 
--- The call answered what stands there, or its first fault; nothing is said of want of memory.
-abbrev pub FailsIn : {X : Type 0} → Option (Fault CdrWhy) → Result X (Fault CdrWhy) → Type 0
-FailsIn None what = Unit {0}
-FailsIn (Some wrong) what = what ≡ Err wrong
+abbrev pub text_refusal : TextFault → Option TextFault
+text_refusal texts.NoPrefix = Some texts.NoPrefix
+text_refusal (texts.Digits place) = Some (texts.Digits place)
+text_refusal (texts.Bad wrong) = Some (texts.Bad wrong)
+text_refusal texts.NoMemory = None
 
-abbrev pub Tells : {X Y : Type 0} → (X → Y) → Result X IorFault → Result Y (Fault CdrWhy) → Type 0
-Tells view (Ok x) what = what ≡ Ok (view x)
-Tells view (Err e) what = FailsIn (ior_fault e) what
+-- the call answered this, seen by view, or was refused for this; nothing is said of want of memory
+abbrev pub RefusedFor : {E X : Type 0} → Option E → Result X E → Type 0
+RefusedFor None what = Unit {0}
+RefusedFor (Some refusal) what = what ≡ Err refusal
+
+abbrev pub Answers : {E X Y : Type 0} → (X → Y) → (E → Option E) → Result X E → Result Y E → Type 0
+Answers view refusal (Ok x) what = what ≡ Ok (view x)
+Answers view refusal (Err e) what = RefusedFor (refusal e) what
+
+-- a fact of each refusal that isn't want of memory
+abbrev pub OnRefusal : {E : Type 0} → Option E → Type 0 → Type 0
+OnRefusal None P = Unit {0}
+OnRefusal (Some refusal) P = P
+
+abbrev pub Refuses : {E X : Type 0} → (E → Option E) → Result X E → Type 0 → Type 0
+Refuses refusal (Ok x) P = Unit {0}
+Refuses refusal (Err e) P = OnRefusal (refusal e) P

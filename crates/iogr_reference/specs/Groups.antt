@@ -1,13 +1,14 @@
 -- The group that a reference names, or the first cause for which it names none. (Chapter 23, "Object
 -- group references".)
-use Rattle.std.specs.Prelude.{◌≡◌, ℕ, ◌==◌, ◌&&◌, nat_lt, Bool, true, false, not, if◌then◌else◌, List, [], ◌∷◌, length, position, count_by, Option, Some, None, Result, Ok, Err}
+use Rattle.std.specs.Prelude.{ℕ, ◌==◌, ◌&&◌, nat_lt, Bool, true, false, not, if◌then◌else◌, List, [], ◌∷◌, length, position, count_by, Option, Some, None, Result, Ok, Err}
 use Rattle.std.specs.List.{list_any}
 use Rattle.std.specs.Str.{bytes_eq}
 use Rattle.cdr_codec.specs.declared.faults.CdrWhy.{CdrWhy}
 use Rattle.cdr_codec.specs.Reading.{Fault, ◌>>=◌}
-use Rattle.cdr_codec.specs.Formats.{Format}
 use Rattle.cdr_codec.specs.Values.{boolean}
-use Rattle.cdr_codec.specs.Encapsulations.{inside}
+use Rattle.cdr_codec.specs.Encapsulations.{held}
+use Rattle.iogr_reference.specs.declared.choices.TheConstants.{PROFILE_LIMIT}
+use Rattle.iogr_reference.specs.declared.tags.TheConstants.{IIOP_TAG, GROUP_TAG, PRIMARY_TAG}
 use Rattle.iogr_reference.specs.declared.references.Profile.{Profile}
 use Rattle.iogr_reference.specs.declared.references.Component.{Component}
 use Rattle.iogr_reference.specs.declared.references.Iiop.{Iiop}
@@ -19,22 +20,7 @@ use Rattle.iogr_reference.specs.declared.faults.RefFault.{RefFault}
 use Rattle.iogr_reference.specs.declared.faults.RefFault.TheVariants as refusals
 use Rattle.iogr_reference.specs.Formats.{iiop, group_tag}
 
--- ---- the tags
-
-abbrev pub iiop_tag : ℕ
-iiop_tag = 0
-
-abbrev pub group_component_tag : ℕ
-group_component_tag = 27
-
-abbrev pub primary_component_tag : ℕ
-primary_component_tag = 28
-
 -- ---- what a profile says of its group
-
--- the value inside an encapsulation; what follows it is ignored
-abbrev pub value_inside : {X : Type 0} → Format CdrWhy X → List ℕ → Result X (Fault CdrWhy)
-value_inside f content = inside f content >>= λ y. Ok y.0
 
 abbrev pub key_inside : Result Iiop (Fault CdrWhy) → Option (List ℕ)
 key_inside (Ok x) = Some x.key
@@ -42,7 +28,7 @@ key_inside (Err wrong) = None
 
 -- the object key of an IIOP profile, where its content can be read
 abbrev pub profile_key : Profile → Option (List ℕ)
-profile_key p = if p.tag == iiop_tag then key_inside (value_inside iiop p.content) else None
+profile_key p = if p.tag == IIOP_TAG then key_inside (held iiop p.content) else None
 
 -- the content of the first component with this tag
 abbrev pub content_of : ℕ → List Component → Option (List ℕ)
@@ -51,16 +37,16 @@ content_of tag (c ∷ cs) = if c.tag == tag then Some c.content else content_of 
 
 abbrev pub tag_inside : Option (List ℕ) → Result (Option GroupTag) (Fault CdrWhy)
 tag_inside None = Ok None
-tag_inside (Some content) = value_inside group_tag content >>= λ tag. Ok (Some tag)
+tag_inside (Some content) = held group_tag content >>= λ tag. Ok (Some tag)
 
 abbrev pub truth_inside : Option (List ℕ) → Result Bool (Fault CdrWhy)
 truth_inside None = Ok false
-truth_inside (Some content) = value_inside boolean content
+truth_inside (Some content) = held boolean content
 
 -- the group component, and whether there is a true primary component
 abbrev pub mark_of : List Component → Result Mark (Fault CdrWhy)
 mark_of cs =
-    tag_inside (content_of group_component_tag cs) >>= λ group. truth_inside (content_of primary_component_tag cs) >>= λ primary.
+    tag_inside (content_of GROUP_TAG cs) >>= λ group. truth_inside (content_of PRIMARY_TAG cs) >>= λ primary.
     Ok (record { group = group; primary = primary })
 
 -- IIOP profiles, and beside each what it says of its group
@@ -81,7 +67,7 @@ marked_with x rest = mark_of x.components >>= λ mark. rest >>= λ others. Ok (i
 unfoldable pub iiops_of : List Profile → Result Marked (Fault CdrWhy)
 iiops_of [] = Ok (marked [] [])
 iiops_of (p ∷ ps) =
-    if p.tag == iiop_tag then (value_inside iiop p.content >>= λ x. marked_with x (iiops_of ps)) else iiops_of ps
+    if p.tag == IIOP_TAG then (held iiop p.content >>= λ x. marked_with x (iiops_of ps)) else iiops_of ps
 
 -- ---- the group
 
@@ -118,7 +104,7 @@ equal_tags tag marks None = one_primary tag marks
 abbrev pub tag_among : List Mark → Option GroupTag → Result GroupTag RefFault
 tag_among marks None = Err refusals.NotAGroup
 tag_among marks (Some tag) =
-    if nat_lt 65535 (length marks) then Err refusals.NotAGroup
+    if nat_lt PROFILE_LIMIT (length marks) then Err refusals.NotAGroup
     else (if list_any (λ (mark : Mark). lacks_tag mark.group) marks then Err refusals.NotAGroup else equal_tags tag marks (unequal_place tag marks))
 
 -- the group component of all profiles, or the first cause for which they are none of a group
@@ -142,13 +128,3 @@ group_among type_id (Ok profiles) = tag_of profiles.marks >>= λ tag. Ok (group_
 -- the group that a reference names
 abbrev pub group_of : Ior → Result GroupRef RefFault
 group_of r = group_among r.type_id (iiops_of r.profiles)
-
--- ---- what the call answers
-
-abbrev pub Answers : Result GroupRef RefFault → Result GroupRef RefFault → Type 0
-Answers (Ok group) what = what ≡ Ok group
-Answers (Err refusals.NoMemory) what = Unit {0}
-Answers (Err (refusals.Bad wrong)) what = what ≡ Err (refusals.Bad wrong)
-Answers (Err refusals.NotAGroup) what = what ≡ Err refusals.NotAGroup
-Answers (Err (refusals.Unequal place)) what = what ≡ Err (refusals.Unequal place)
-Answers (Err refusals.TwoPrimaries) what = what ≡ Err refusals.TwoPrimaries

@@ -1,5 +1,9 @@
+pub mod Octets
+pub mod Choices
 pub mod Formats
 pub mod Faults
 pub mod Groups
 pub mod Views
 pub mod Texts
+pub mod Naming
+pub mod Laws

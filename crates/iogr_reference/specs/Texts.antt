@@ -1,21 +1,19 @@
 -- References as texts: `IOR:`, and the hexadecimal digits of an encapsulation. (GIOP chapter,
 -- "Stringified object references".)
-use Rattle.std.specs.Prelude.{◌≡◌, ℕ, ◌<◌, ◌^◌, ◌==◌, ◌&&◌, ◌||◌, Bool, false, not, if◌then◌else◌, List, [], ◌∷◌, ◌++◌, length, drop, position, codes, Option, Some, None, Result, Ok, Err}
-use Rattle.std.specs.List.{All}
+use Rattle.std.specs.Prelude.{ℕ, ◌==◌, ◌&&◌, ◌||◌, Bool, false, not, if◌then◌else◌, List, [], ◌∷◌, ◌++◌, length, drop, position, codes, Option, Some, None, Result, Ok, Err}
 use Rattle.hex.specs.Hex.{encode_lower, decode_of, is_hex_digit}
 use Rattle.hex.specs.declared.error.FromHexError.{FromHexError}
 use Rattle.cdr_codec.specs.declared.faults.CdrWhy.{CdrWhy}
 use Rattle.cdr_codec.specs.Reading.{Fault, ◌>>=◌}
 use Rattle.iogr_reference.specs.declared.references.Ior.{Ior}
-use Rattle.iogr_reference.specs.declared.references.Profile.{Profile}
 use Rattle.iogr_reference.specs.declared.faults.TextFault.{TextFault}
 use Rattle.iogr_reference.specs.declared.faults.TextFault.TheVariants as texts
-use Rattle.iogr_reference.specs.Formats.{ior, IsWritable}
-use Rattle.iogr_reference.specs.Groups.{value_inside}
-use Rattle.iogr_reference.specs.Views.{encapsulated}
+use Rattle.iogr_reference.specs.Formats.{ior}
+use Rattle.cdr_codec.specs.declared.orders.Order.TheVariants.{Big}
+use Rattle.cdr_codec.specs.Encapsulations.{encapsulated, held}
 
 abbrev pub text_of : Ior → List ℕ
-text_of r = codes "IOR:" ++ encode_lower (encapsulated ior r)
+text_of r = codes "IOR:" ++ encode_lower (encapsulated Big ior r)
 
 abbrev pub is_either : ℕ → ℕ → ℕ → Bool
 is_either byte upper lower = byte == upper || byte == lower
@@ -49,35 +47,9 @@ ior_or_bad (Ok r) = Ok r
 ior_or_bad (Err wrong) = Err (texts.Bad (record { why = wrong.why; place = wrong.place }))
 
 abbrev pub ior_in_digits : List ℕ → Result Ior TextFault
-ior_in_digits digits = octets_in digits >>= λ octets. ior_or_bad (value_inside ior octets)
+ior_in_digits digits = octets_in digits >>= λ octets. ior_or_bad (held ior octets)
 
 -- the reference that a text spells, or the first cause for which it spells none
 abbrev pub ior_in_text : List ℕ → Result Ior TextFault
 ior_in_text text =
     if has_prefix text then ior_in_digits (drop 4 text) else Err texts.NoPrefix
-
-abbrev pub Answers : {X Y : Type 0} → (X → Y) → Result X TextFault → Result Y TextFault → Type 0
-Answers view (Ok x) what = what ≡ Ok (view x)
-Answers view (Err texts.NoMemory) what = Unit {0}
-Answers view (Err (texts.Bad wrong)) what = what ≡ Err (texts.Bad wrong)
-Answers view (Err texts.NoPrefix) what = what ≡ Err texts.NoPrefix
-Answers view (Err (texts.Digits place)) what = what ≡ Err (texts.Digits place)
-
--- ---- what a text says of a reference
-
-abbrev pub AreBytes : List ℕ → Type 0
-AreBytes xs = All (λ x. x < 256) xs
-
--- the numbers of a profile fit
-pub record ProfileFits (p : Profile) : Type 0 where
-  pub tag : p.tag < 2 ^ 32
-  pub content : AreBytes p.content
-
--- and those of a reference
-pub record ReferenceFits (r : Ior) : Type 0 where
-  pub type_id : AreBytes r.type_id
-  pub profiles : All ProfileFits r.profiles
-
--- the text of a reference spells the reference
-abbrev pub TextsAreRead : Type 0
-TextsAreRead = (r : Ior) → IsWritable r → ReferenceFits r → ior_in_text (text_of r) ≡ Ok r

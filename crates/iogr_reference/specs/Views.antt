@@ -1,15 +1,14 @@
 -- The reference of a view: a profile of each member, in order of joining, which names the group and
 -- its version; the primary's says besides that it is the primary. (Chapter 23, "Object group
 -- references".)
-use Rattle.std.specs.Prelude.{◌≡◌, ◌<◌, ◌≤◌, ◌^◌, length, position, count_by, Ok, ℕ, ◌==◌, Bool, true, false, List, [], ◌∷◌, ◌++◌, slice_index, map, codes, Option, Some, None}
-use Rattle.byteorder.specs.Endian.{big_bytes}
+use Rattle.std.specs.Prelude.{◌<◌, ◌≤◌, ◌^◌, length, position, count_by, ℕ, ◌==◌, Bool, true, false, List, [], ◌∷◌, slice_index, map, Option, Some, None}
 use Rattle.ft_base.specs.declared.numbers.GroupId.{GroupId}
 use Rattle.ft_base.specs.declared.numbers.HostNo.{HostNo}
 use Rattle.ft_base.specs.declared.numbers.Version.{Version}
 use Rattle.ft_base.specs.declared.views.View.{View}
-use Rattle.cdr_codec.specs.declared.faults.CdrWhy.{CdrWhy}
+use Rattle.ft_base.specs.declared.views.TheConstants.{MEMBER_LIMIT}
 use Rattle.cdr_codec.specs.declared.orders.Order.TheVariants.{Big}
-use Rattle.cdr_codec.specs.Formats.{Format}
+use Rattle.cdr_codec.specs.Encapsulations.{encapsulated}
 use Rattle.cdr_codec.specs.Values.{boolean}
 use Rattle.iogr_reference.specs.declared.references.Profile.{Profile}
 use Rattle.iogr_reference.specs.declared.references.Component.{Component}
@@ -17,36 +16,31 @@ use Rattle.iogr_reference.specs.declared.references.Iiop.{Iiop}
 use Rattle.iogr_reference.specs.declared.references.Ior.{Ior}
 use Rattle.iogr_reference.specs.Formats.{iiop, group_tag}
 use Rattle.iogr_reference.specs.declared.references.GroupRef.{GroupRef}
-use Rattle.iogr_reference.specs.Groups.{group_of, iiop_tag, group_component_tag, primary_component_tag}
-
--- an encapsulation in big endian order
-abbrev pub encapsulated : {X : Type 0} → Format CdrWhy X → X → List ℕ
-encapsulated f x = 0 ∷ f.written Big 1 x
+use Rattle.iogr_reference.specs.declared.choices.TheConstants.{DOMAIN, ADDRESS}
+use Rattle.iogr_reference.specs.declared.tags.TheConstants.{IIOP_TAG, GROUP_TAG, PRIMARY_TAG}
+use Rattle.iogr_reference.specs.Choices.{object_key}
 
 abbrev pub group_component : GroupId → Version → Component
 group_component group version = record {
-  tag = group_component_tag;
-  content = encapsulated group_tag (record { domain = codes "ftc"; group = group; version = version });
+  tag = GROUP_TAG;
+  content = encapsulated Big group_tag (record { domain = DOMAIN; group = group; version = version });
 }
 
 abbrev pub primary_component : Component
-primary_component = record { tag = primary_component_tag; content = encapsulated boolean true }
+primary_component = record { tag = PRIMARY_TAG; content = encapsulated Big boolean true }
 
 abbrev pub components_of : GroupId → Version → Bool → List Component
 components_of group version false = group_component group version ∷ []
 components_of group version true = group_component group version ∷ primary_component ∷ []
 
-abbrev pub object_key : GroupId → List ℕ
-object_key group = codes "FTOG" ++ big_bytes 8 group.0
-
 abbrev pub iiop_with : ℕ → List ℕ → List Component → Iiop
-iiop_with port key components = record { minor = 2; host = codes "127.0.0.1"; port = port; key = key; components = components }
+iiop_with port key components = record { minor = 2; host = ADDRESS; port = port; key = key; components = components }
 
 abbrev pub member_iiop : GroupId → Version → ℕ → Bool → Iiop
 member_iiop group version port is_primary = iiop_with port (object_key group) (components_of group version is_primary)
 
 abbrev pub member_profile : GroupId → Version → ℕ → Bool → Profile
-member_profile group version port is_primary = record { tag = iiop_tag; content = encapsulated iiop (member_iiop group version port is_primary) }
+member_profile group version port is_primary = record { tag = IIOP_TAG; content = encapsulated Big iiop (member_iiop group version port is_primary) }
 
 abbrev pub is_primary_host : Option HostNo → ℕ → Bool
 is_primary_host None host = false
@@ -70,20 +64,15 @@ pub record HasMembers (group : GroupId) (view : View) (ports : List ℕ) : Type 
   pub version_fits : view.version.0 < 2 ^ 32
   pub ports_fit : (host : ℕ) → slice_index ports host < 2 ^ 16
   pub some : 0 < length view.members
-  pub few : length view.members ≤ 16
+  pub few : length view.members ≤ MEMBER_LIMIT
   pub once : count_by (is_primary_host view.primary) view.members ≤ 1
 
 abbrev pub group_of_view : GroupId → List ℕ → View → List ℕ → GroupRef
 group_of_view group type_id view ports = record {
-  domain = codes "ftc";
+  domain = DOMAIN;
   group = group;
   version = view.version;
   type_id = type_id;
   profiles = map (iiop_of_host group view ports) view.members;
   primary = position (is_primary_host view.primary) view.members;
 }
-
--- a view's reference names its group, its version, its members and its primary
-abbrev pub ViewsAreNamed : Type 0
-ViewsAreNamed = (group : GroupId) (type_id : List ℕ) (view : View) (ports : List ℕ) → HasMembers group view ports
-    → group_of (reference_of group type_id view ports) ≡ Ok (group_of_view group type_id view ports)

@@ -1,50 +1,9 @@
 use cdr_codec::CdrFault;
 use ft_base::NoMemory;
-use std::alloc::AllocFailed;
 use thiserror::Error;
 
-/// Why bytes are no reference.
-#[derive(Clone, Copy, Debug, PartialEq, Eq, Error)]
-pub enum IorFault {
-    /// The first value that can't be read.
-    #[error("no reference: {0}")]
-    Bad(CdrFault),
-    #[error("no memory")]
-    NoMemory,
-}
-
-impl From<CdrFault> for IorFault {
-    ghost use Rattle.std.specs.Prelude.{◌≡◌};
-    ghost use Rattle.iogr_reference.specs.declared.faults.IorFault.TheVariants as faults;
-
-    ghost from_gives = { λ fault e. e ≡ faults.Bad fault };
-
-    fn from(fault: CdrFault) -> IorFault {
-        IorFault::Bad(fault)
-    }
-}
-
-impl From<NoMemory> for IorFault {
-    ghost use Rattle.std.specs.Prelude.{◌≡◌};
-    ghost use Rattle.iogr_reference.specs.declared.faults.IorFault.TheVariants as faults;
-
-    ghost from_gives = { λ _ e. e ≡ faults.NoMemory };
-
-    fn from(_error: NoMemory) -> IorFault {
-        IorFault::NoMemory
-    }
-}
-
-impl<T: Drop> From<AllocFailed<T>> for IorFault {
-    ghost use Rattle.std.specs.Prelude.{◌≡◌};
-    ghost use Rattle.iogr_reference.specs.declared.faults.IorFault.TheVariants as faults;
-
-    ghost from_gives = { λ _ e. e ≡ faults.NoMemory };
-
-    fn from(_error: AllocFailed<T>) -> IorFault {
-        IorFault::NoMemory
-    }
-}
+/// Why bytes are no reference: the first value that can't be read, or want of memory.
+pub use cdr_codec::FieldFault as IorFault;
 
 /// Why a reference is none of a group: the first that applies, in this order.
 #[derive(Clone, Copy, Debug, PartialEq, Eq, Error)]

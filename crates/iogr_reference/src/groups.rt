@@ -1,15 +1,20 @@
 //! The group that a reference names.
 ghost use Rattle.std.specs.Prelude.{◌≡◌, ◌<◌, ◌≤◌, length, option_map, IfOk, IfSome, MatchResult, Ok};
 ghost use Rattle.std.specs.List.{list_any};
-ghost use Rattle.iogr_reference.specs.Faults.{Tells};
+ghost use Rattle.cdr_codec.specs.Calls.{field_fault, Tells};
 ghost use Rattle.iogr_reference.specs.Formats.{AreShort};
-ghost use Rattle.iogr_reference.specs.Groups.{marked, iiops_of, first_tag, is_tag, lacks_tag, unequal_place, primaries, primary_place, tag_of, group_among, group_of, Answers};
+ghost use Rattle.iogr_reference.specs.Groups.{marked, iiops_of, first_tag, is_tag, lacks_tag, unequal_place, primaries, primary_place, tag_of, group_among, group_of};
+ghost use Rattle.iogr_reference.specs.Faults.{ref_refusal, Answers, Refuses};
+ghost use Rattle.iogr_reference.specs.Naming.{NamesGroup};
+ghost use Rattle.iogr_reference.specs.declared.references.GroupRef.{GroupRef as AGroup};
 ghost use Rattle.iogr_reference.specs.declared.insides.Mark.{Mark as AMark};
 
+use crate::choices::PROFILE_LIMIT;
 use crate::faults::{IorFault, RefFault};
-use crate::insides::{IIOP_TAG, Mark, iiop_inside, mark_in};
-use crate::lists::{IiopList, PROFILE_LIMIT};
+use crate::insides::{Mark, iiop_inside, mark_in};
+use crate::lists::IiopList;
 use crate::references::{GroupRef, GroupTag, Iiop, Ior, Profile};
+use crate::tags::IIOP_TAG;
 use ft_base::Bytes;
 use std::alloc::Global;
 
@@ -22,7 +27,7 @@ struct Gathered {
 
 fn gather(alloc: Global, profiles: &[Profile]) -> Result<Gathered, IorFault>
     requires { AreShort profiles.now }
-    ensures read { Tells (λ g. marked g.iiops.items g.marks.items) result (iiops_of profiles.now) }
+    ensures read { Tells (λ g. marked g.iiops.items g.marks.items) field_fault result (iiops_of profiles.now) }
     ensures beside { IfOk result (λ g. length g.iiops.items ≡ length g.marks.items) }
 {
     let mut iiops = Vec::new(alloc);
@@ -96,7 +101,7 @@ fn count_primaries(marks: &[Mark]) -> usize
 /// The group component of all profiles.
 fn judge(marks: &[Mark]) -> Result<&GroupTag, RefFault>
     ensures tag { MatchResult result (λ tag. tag_of marks.now ≡ Ok tag.now) (λ fault. tag_of marks.now ≡ Err fault) }
-    ensures few { IfOk result (λ tag. length marks.now ≤ 65535) }
+    ensures few { IfOk result (λ tag. length marks.now ≤ PROFILE_LIMIT) }
 {
     let Some(tag) = tag_of_first(marks) else {
         return Err(RefFault::NotAGroup);
@@ -117,7 +122,7 @@ fn judge(marks: &[Mark]) -> Result<&GroupTag, RefFault>
 }
 
 fn place_of_primary(marks: &[Mark]) -> Option<u16>
-    requires { length marks.now ≤ 65535 }
+    requires { length marks.now ≤ PROFILE_LIMIT }
     ensures { result ≡ primary_place marks.now }
 {
     match first_primary(marks) {
@@ -128,7 +133,7 @@ fn place_of_primary(marks: &[Mark]) -> Option<u16>
 
 fn group_with(alloc: Global, type_id: &Bytes, gathered: Gathered) -> Result<GroupRef, RefFault>
     requires { length gathered.iiops.items ≡ length gathered.marks.items }
-    ensures { Answers result (group_among type_id.now (Ok (marked gathered.iiops.items gathered.marks.items))) }
+    ensures { Answers (λ g. g) ref_refusal result (group_among type_id.now (Ok (marked gathered.iiops.items gathered.marks.items))) }
 {
     let Gathered { iiops, marks } = gathered;
     let tag = judge(marks.as_slice())?;
@@ -144,12 +149,21 @@ fn group_with(alloc: Global, type_id: &Bytes, gathered: Gathered) -> Result<Grou
     })
 }
 
+fn group_in(alloc: Global, reference: &Ior) -> Result<GroupRef, RefFault>
+    requires { AreShort reference.now.profiles }
+    ensures { Answers (λ g. g) ref_refusal result (group_of reference.now) }
+{
+    let gathered = gather(alloc, reference.profiles.as_slice())?;
+    group_with(alloc, &reference.type_id, gathered)
+}
+
 /// The group that a reference names. Profiles of other tags are passed over, and places count the
 /// IIOP profiles alone.
 pub fn group_ref_of(alloc: Global, reference: &Ior) -> Result<GroupRef, RefFault>
     requires { AreShort reference.now.profiles }
-    ensures { Answers result (group_of reference.now) }
+    ensures found { IfOk result (NamesGroup reference.now) }
+    ensures refused { Refuses ref_refusal result ((group : AGroup) → NamesGroup reference.now group → ⊥) }
+    ensures value { Answers (λ g. g) ref_refusal result (group_of reference.now) }
 {
-    let gathered = gather(alloc, reference.profiles.as_slice())?;
-    group_with(alloc, &reference.type_id, gathered)
+    group_in(alloc, reference)
 }

@@ -3,26 +3,37 @@
 //! group references".)
 #![tactic(auto)]
 
+mod choices;
 mod faults;
 mod groups;
 mod insides;
+mod keys;
 mod laws;
 mod lists;
 mod reading;
 mod references;
+mod tags;
 #[cfg(test)]
 mod tests;
 mod texts;
 mod views;
 mod writing;
 
+pub use choices::{
+    ADDRESS, DOMAIN, FIRST_PORT, ID_BACK, ID_FRONT, KEY_LENGTH, KEY_SIGN, PROFILE_LIMIT,
+};
 pub use faults::{IorFault, RefFault, TextFault};
 pub use groups::group_ref_of;
-pub use insides::{GROUP_TAG, IIOP_TAG, PRIMARY_TAG, key_of};
-pub use laws::{texts_are_read, views_are_named};
-pub use lists::{Components, IiopList, PROFILE_LIMIT, Ports, Profiles};
+pub use insides::key_of;
+pub use keys::{group_of_key, object_key, port_of, repository_id};
+pub use laws::{
+    keys_name_groups, references_are_codecs, references_are_read_back,
+    references_are_refused_exactly, texts_are_read, views_are_named,
+};
+pub use lists::{Components, IiopList, Ports, Profiles};
 pub use reading::{read_ior, read_profile};
 pub use references::{Component, GroupRef, GroupTag, Iiop, Ior, Profile};
+pub use tags::{GROUP_TAG, IIOP_TAG, PRIMARY_TAG};
 pub use texts::{from_text, to_text};
 pub use views::ref_of;
 pub use writing::write_ior;

@@ -1,5 +1,6 @@
 ghost use Rattle.std.specs.Prelude.{◌≡◌, ◌≤◌, length};
 
+use crate::choices::PROFILE_LIMIT;
 use crate::references::{Component, Iiop, Profile};
 use std::marker::Model;
 
@@ -65,9 +66,6 @@ impl Components {
     }
 }
 
-/// The most profiles that a group's reference can have.
-pub const PROFILE_LIMIT: usize = 65_535;
-
 /// What the IIOP profiles of a reference hold, at most 65,535, in order.
 #[derive(Drop)]
 pub struct IiopList {
@@ -76,13 +74,14 @@ pub struct IiopList {
 
 impl Model for IiopList {
     ghost use Rattle.std.specs.Prelude.{◌≤◌, List, length};
+    ghost use Rattle.iogr_reference.specs.declared.choices.TheConstants.{PROFILE_LIMIT};
     ghost use Rattle.iogr_reference.specs.declared.references.Iiop.{Iiop};
 
     ghost Value = { List Iiop };
 
     ghost view = { λ p. p.profiles.items };
 
-    ghost invariant = { λ p. length p.profiles.items ≤ 65535 };
+    ghost invariant = { λ p. length p.profiles.items ≤ PROFILE_LIMIT };
 }
 
 impl IiopList {

@@ -1,50 +1,26 @@
 ghost use Rattle.std.specs.Prelude.{◌≡◌, OnErr, IfOk};
-ghost use Rattle.cdr_codec.specs.Formats.{read_each};
-ghost use Rattle.cdr_codec.specs.Calls.{Gives, Refuses};
+ghost use Rattle.cdr_codec.specs.Calls.{field_fault, Gives, Refuses};
 ghost use Rattle.cdr_codec.specs.Laws.{Took, IsNowhere};
-ghost use Rattle.iogr_reference.specs.Faults.{ior_fault};
-ghost use Rattle.iogr_reference.specs.Formats.{profile, profiles, ior, IsShort, AreShort};
+ghost use Rattle.cdr_codec.specs.Tagged.{IsShort};
+ghost use Rattle.iogr_reference.specs.Formats.{profile, profile_parts, profiles, ior, AreShort};
 
 use crate::faults::IorFault;
 use crate::lists::Profiles;
 use crate::references::{Ior, Profile};
-use cdr_codec::CdrReader;
+use cdr_codec::{CdrReader, read_all_tagged, read_tagged};
 use ft_base::Bytes;
 use std::alloc::Global;
 
-fn profile_in(alloc: Global, reader: &mut CdrReader) -> Result<Profile, IorFault>
-    ensures read { Gives (λ p. p) ior_fault result (profile.read reader.old) reader.new }
-    ensures short { IfOk result (λ p. IsShort p.content) }
-{
-    let tag = reader.read_u32()?;
-    let content = reader.read_octets()?;
-    let content = Bytes::of(alloc, content)?;
-    Ok(Profile { tag, content })
-}
-
-fn each_profile(alloc: Global, count: u32, reader: &mut CdrReader) -> Result<Vec<Profile>, IorFault>
-    ensures read { Gives (λ ps. ps.items) ior_fault result (read_each profile.read count reader.old) reader.new }
-    ensures short { IfOk result (λ ps. AreShort ps.items) }
-{
-    let mut profiles = Vec::new(alloc);
-    for _ in 0..count {
-        let profile = profile_in(alloc, reader)?;
-        profiles.push(profile)?;
-    }
-    Ok(profiles)
-}
-
 fn read_profiles(alloc: Global, reader: &mut CdrReader) -> Result<Profiles, IorFault>
-    ensures read { Gives (λ ps. ps) ior_fault result (profiles.read reader.old) reader.new }
+    ensures read { Gives (λ ps. ps) field_fault result (profiles.read reader.old) reader.new }
     ensures short { IfOk result AreShort }
 {
-    let count = reader.read_u32()?;
-    let profiles = each_profile(alloc, count, reader)?;
+    let profiles = read_all_tagged(alloc, reader)?;
     Ok(Profiles::from_vec(profiles))
 }
 
 pub fn ior_in(alloc: Global, reader: &mut CdrReader) -> Result<Ior, IorFault>
-    ensures read { Gives (λ i. i) ior_fault result (ior.read reader.old) reader.new }
+    ensures read { Gives (λ i. i) field_fault result (ior.read reader.old) reader.new }
     ensures short { IfOk result (λ i. AreShort i.profiles) }
 {
     let type_id = reader.read_string()?;
@@ -54,7 +30,7 @@ pub fn ior_in(alloc: Global, reader: &mut CdrReader) -> Result<Ior, IorFault>
 }
 
 fn read_whole_ior(alloc: Global, reader: &mut CdrReader) -> Result<Ior, IorFault>
-    ensures read { Gives (λ i. i) ior_fault result (ior.read reader.old) reader.new }
+    ensures read { Gives (λ i. i) field_fault result (ior.read reader.old) reader.new }
     ensures short { IfOk result (λ i. AreShort i.profiles) }
     ensures left { OnErr result (reader.new ≡ reader.old) }
 {
@@ -67,21 +43,21 @@ fn read_whole_ior(alloc: Global, reader: &mut CdrReader) -> Result<Ior, IorFault
 /// Reads a reference. The reader stays where it was after a fault.
 pub fn read_ior(alloc: Global, reader: &mut CdrReader) -> Result<Ior, IorFault>
     ensures found { IfOk result (λ i. Took ior.Spelled reader.old (i, reader.new)) }
-    ensures refused { Refuses ior_fault result (IsNowhere ior.Spelled reader.old) }
+    ensures refused { Refuses field_fault result (IsNowhere ior.Spelled reader.old) }
     ensures left { OnErr result (reader.new ≡ reader.old) }
-    ensures read { Gives (λ i. i) ior_fault result (ior.read reader.old) reader.new }
+    ensures read { Gives (λ i. i) field_fault result (ior.read reader.old) reader.new }
     ensures short { IfOk result (λ i. AreShort i.profiles) }
 {
     read_whole_ior(alloc, reader)
 }
 
 fn read_whole_profile(alloc: Global, reader: &mut CdrReader) -> Result<Profile, IorFault>
-    ensures read { Gives (λ p. p) ior_fault result (profile.read reader.old) reader.new }
-    ensures short { IfOk result (λ p. IsShort p.content) }
+    ensures read { Gives (λ p. p) field_fault result (profile.read reader.old) reader.new }
+    ensures short { IfOk result (IsShort profile_parts) }
     ensures left { OnErr result (reader.new ≡ reader.old) }
 {
     let mut ahead = reader.again();
-    let profile = profile_in(alloc, &mut ahead)?;
+    let profile = read_tagged(alloc, &mut ahead)?;
     *reader = ahead;
     Ok(profile)
 }
@@ -89,10 +65,10 @@ fn read_whole_profile(alloc: Global, reader: &mut CdrReader) -> Result<Profile, 
 /// Reads one profile. The reader stays where it was after a fault.
 pub fn read_profile(alloc: Global, reader: &mut CdrReader) -> Result<Profile, IorFault>
     ensures found { IfOk result (λ p. Took profile.Spelled reader.old (p, reader.new)) }
-    ensures refused { Refuses ior_fault result (IsNowhere profile.Spelled reader.old) }
+    ensures refused { Refuses field_fault result (IsNowhere profile.Spelled reader.old) }
     ensures left { OnErr result (reader.new ≡ reader.old) }
-    ensures read { Gives (λ p. p) ior_fault result (profile.read reader.old) reader.new }
-    ensures short { IfOk result (λ p. IsShort p.content) }
+    ensures read { Gives (λ p. p) field_fault result (profile.read reader.old) reader.new }
+    ensures short { IfOk result (IsShort profile_parts) }
 {
     read_whole_profile(alloc, reader)
 }

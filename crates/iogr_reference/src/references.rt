@@ -1,4 +1,5 @@
 use crate::lists::{Components, IiopList, Profiles};
+use cdr_codec::Tagged;
 use ft_base::{Bytes, GroupId, Version};
 
 /// One way to reach an object, by its tag (GIOP chapter, `TaggedProfile`). The content of an IIOP
@@ -7,6 +8,31 @@ use ft_base::{Bytes, GroupId, Version};
 pub struct Profile {
     pub tag: u32,
     pub content: Bytes,
+}
+
+impl Tagged for Profile {
+    ghost use Rattle.std.specs.Prelude.{refl};
+    ghost use Rattle.iogr_reference.specs.Formats.{profile_of, profile_parts};
+
+    ghost made = { profile_of };
+
+    ghost parts = { profile_parts };
+
+    fn behind(tag: u32, content: Bytes) -> Profile {
+        Profile { tag, content }
+    }
+
+    fn tag(&self) -> u32 {
+        self.tag
+    }
+
+    fn content(&self) -> &[u8] {
+        self.content.bytes()
+    }
+
+    ghost kept = { λ x. refl };
+
+    ghost whole = { λ p. refl };
 }
 
 /// A reference to an object (GIOP chapter, `IOR`).
@@ -22,6 +48,31 @@ pub struct Ior {
 pub struct Component {
     pub tag: u32,
     pub content: Bytes,
+}
+
+impl Tagged for Component {
+    ghost use Rattle.std.specs.Prelude.{refl};
+    ghost use Rattle.iogr_reference.specs.Formats.{component_of, component_parts};
+
+    ghost made = { component_of };
+
+    ghost parts = { component_parts };
+
+    fn behind(tag: u32, content: Bytes) -> Component {
+        Component { tag, content }
+    }
+
+    fn tag(&self) -> u32 {
+        self.tag
+    }
+
+    fn content(&self) -> &[u8] {
+        self.content.bytes()
+    }
+
+    ghost kept = { λ x. refl };
+
+    ghost whole = { λ c. refl };
 }
 
 /// What an IIOP profile holds (GIOP chapter, `IIOP::ProfileBody`). The major version isn't kept.

@@ -2,10 +2,10 @@ ghost use Rattle.std.specs.Prelude.{◌<◌, ◌^◌, length, IfOk};
 ghost use Rattle.iogr_reference.specs.Formats.{IsWritable};
 
 use crate::{
-    Ior, IorFault, Ports, Profile, RefFault, TextFault, from_text, group_ref_of, key_of, read_ior,
-    read_profile, ref_of, to_text, write_ior,
+    Ior, IorFault, Ports, Profile, RefFault, TextFault, from_text, group_of_key, group_ref_of,
+    key_of, object_key, port_of, read_ior, read_profile, ref_of, repository_id, to_text, write_ior,
 };
-use cdr_codec::{CdrReader, CdrWriter, Order};
+use cdr_codec::{CdrFault, CdrReader, CdrWhy, CdrWriter, Order};
 use ft_base::{Bytes, GroupId, HostNo, Members, Name, NoMemory, Version, View};
 use std::alloc::Global;
 
@@ -48,6 +48,59 @@ const ANOTHER_FIRST: &str = concat!(
 );
 
 const NO_PROFILES: &str = "IOR:000000000000001449444c3a6674632f4163636f756e743a312e300000000000";
+
+// The second member's profile again, which names version 2.
+const ANOTHER_VERSION: &str = concat!(
+    "IOR:000000000000001449444c3a6674632f4163636f756e743a312e300000000002",
+    "000000000000004c000102000000000a3132372e302e302e310007d1",
+    "0000000c46544f470000000000000001000000010000001b0000001c",
+    "00010000000000046674630000000000000000000000000100000001",
+    "000000000000004c000102000000000a3132372e302e302e310007d1",
+    "0000000c46544f470000000000000001000000010000001b0000001c",
+    "00010000000000046674630000000000000000000000000100000002",
+);
+
+// A member's profile, and one without components.
+const ONE_WITHOUT_GROUP: &str = concat!(
+    "IOR:000000000000001449444c3a6674632f4163636f756e743a312e300000000002",
+    "000000000000004c000102000000000a3132372e302e302e310007d1",
+    "0000000c46544f470000000000000001000000010000001b0000001c",
+    "00010000000000046674630000000000000000000000000100000001",
+    "0000000000000028000102000000000a3132372e302e302e310007d2",
+    "0000000c46544f47000000000000000100000000",
+);
+
+// An IIOP profile that ends behind its version.
+const CUT_PROFILE: &str = concat!(
+    "IOR:000000000000001449444c3a6674632f4163636f756e743a312e300000000001",
+    "0000000000000003000102",
+);
+
+// A group component whose byte order is 2.
+const COMPONENT_WITHOUT_ORDER: &str = concat!(
+    "IOR:000000000000001449444c3a6674632f4163636f756e743a312e300000000001",
+    "000000000000004c000102000000000a3132372e302e302e310007d1",
+    "0000000c46544f470000000000000001000000010000001b0000001c",
+    "02010000000000046674630000000000000000000000000100000001",
+);
+
+// A member's profile as IIOP 1.1 has it, and bytes behind the reference.
+const IIOP_1_1: &str = concat!(
+    "IOR:000000000000001449444c3a6674632f4163636f756e743a312e300000000001",
+    "000000000000004c000101000000000a3132372e302e302e310007d1",
+    "0000000c46544f470000000000000001000000010000001b0000001c",
+    "00010000000000046674630000000000000000000000000700000005",
+    "deadbeef",
+);
+
+// 4,294,967,295 profiles are told, and there are 12.
+const MANY_TOLD: &str = concat!(
+    "IOR:000000000000000100000000ffffffff",
+    "000000000000000000000000000000000000000000000000",
+    "000000000000000000000000000000000000000000000000",
+    "000000000000000000000000000000000000000000000000",
+    "000000000000000000000000000000000000000000000000",
+);
 
 fn bank(alloc: Global) -> Result<Ior, NoMemory>
     ensures { IfOk result IsWritable }
@@ -115,19 +168,46 @@ fn refusal(alloc: Global, text: &[u8]) -> Option<RefFault>
     group_ref_of(alloc, &reference).err()
 }
 
+fn fault(why: CdrWhy, place: u32) -> CdrFault {
+    CdrFault { why, place }
+}
+
 #[test]
-fn references_of_no_group(rt: HostRuntime) -> Result<(), NoMemory> {
+fn references_of_no_group(rt: HostRuntime) {
     let alloc = rt.alloc();
-    let none = refusal(alloc, NO_PROFILES.as_bytes());
-    assert!(rt; none == Some(RefFault::NotAGroup));
-    let two = refusal(alloc, TWO_PRIMARIES.as_bytes());
-    assert!(rt; two == Some(RefFault::TwoPrimaries));
-    let mut text = Vec::from_slice(alloc, BANK.as_bytes())?;
-    text.pop();
-    text.push(b'2')?;
-    assert!(rt; text.as_slice().len() < 1000);
-    let unequal = refusal(alloc, text.as_slice());
-    assert!(rt; unequal == Some(RefFault::Unequal(2)));
+    let rows: [(&str, RefFault); 6] = [
+        (NO_PROFILES, RefFault::NotAGroup),
+        (ONE_WITHOUT_GROUP, RefFault::NotAGroup),
+        (TWO_PRIMARIES, RefFault::TwoPrimaries),
+        (ANOTHER_VERSION, RefFault::Unequal(1)),
+        (CUT_PROFILE, RefFault::Bad(fault(CdrWhy::Short, 4))),
+        (
+            COMPONENT_WITHOUT_ORDER,
+            RefFault::Bad(fault(CdrWhy::BadOrder, 0)),
+        ),
+    ];
+    for (text, want) in &rows {
+        let text = text.as_bytes();
+        assert!(rt; text.len() < 1000);
+        assert!(rt; refusal(alloc, text) == Some(*want));
+    }
+}
+
+#[test]
+fn a_group_by_iiop_1_1(rt: HostRuntime) -> Result<(), NoMemory> {
+    let alloc = rt.alloc();
+    let Ok(reference) = from_text(alloc, IIOP_1_1.as_bytes()) else {
+        return Err(NoMemory);
+    };
+    match group_ref_of(alloc, &reference) {
+        Ok(group) => {
+            assert_eq!(rt; group.group.0, 7);
+            assert_eq!(rt; group.version.0, 5);
+            assert!(rt; group.primary.is_none());
+            assert!(rt; group.profiles.as_slice().iter().all(|one| one.minor == 1));
+        }
+        Err(_) => assert!(rt; false, "no group"),
+    }
     Ok(())
 }
 
@@ -161,17 +241,26 @@ fn text_fault(alloc: Global, text: &[u8]) -> Option<TextFault>
     from_text(alloc, text).err()
 }
 
+// No count of profiles is believed: for as many as MANY_TOLD tells there is no memory.
 #[test]
 fn texts_that_are_no_reference(rt: HostRuntime) {
     let alloc = rt.alloc();
-    let rows: [(&[u8], TextFault); 5] = [
-        (b"", TextFault::NoPrefix),
-        (b"IOR0", TextFault::NoPrefix),
-        (b"IOR:000", TextFault::Digits(3)),
-        (b"IOR:0g0", TextFault::Digits(1)),
-        (b"IOR:00g0", TextFault::Digits(2)),
+    let rows: [(&str, TextFault); 9] = [
+        ("", TextFault::NoPrefix),
+        ("IOR0", TextFault::NoPrefix),
+        ("IOR:000", TextFault::Digits(3)),
+        ("IOR:0g0", TextFault::Digits(1)),
+        ("IOR:00g0", TextFault::Digits(2)),
+        ("IOR:", TextFault::Bad(fault(CdrWhy::Short, 0))),
+        ("IOR:02", TextFault::Bad(fault(CdrWhy::BadOrder, 0))),
+        (
+            "IOR:0000000000000001",
+            TextFault::Bad(fault(CdrWhy::Short, 4)),
+        ),
+        (MANY_TOLD, TextFault::Bad(fault(CdrWhy::Short, 112))),
     ];
     for (text, want) in &rows {
+        let text = text.as_bytes();
         assert!(rt; text.len() < 1000);
         assert!(rt; text_fault(alloc, text) == Some(*want));
     }
@@ -239,17 +328,52 @@ fn key_in(alloc: Global, tag: u32, content: &[u8]) -> Result<Option<Bytes>, NoMe
     key_of(alloc, &Profile { tag, content })
 }
 
-// A profile of IIOP 1.0, and one that ends inside its key.
+// Profiles of IIOP 1.0 and of 1.2 without components, and four that have no key: of another tag, two
+// that end inside a field, and one that tells 4,294,967,295 components.
 #[test]
 fn the_key_of_a_profile(rt: HostRuntime) -> Result<(), NoMemory> {
     let alloc = rt.alloc();
-    let content = b"\0\x01\0\0\0\0\0\x02h\0\x07\xd0\0\0\0\x03key".as_slice();
-    match key_in(alloc, 0, content)? {
-        Some(key) => assert!(rt; key.bytes() == b"key".as_slice()),
-        None => assert!(rt; false, "no key"),
+    let rows: [(u32, &[u8], bool); 6] = [
+        (0, b"\0\x01\0\0\0\0\0\x02h\0\x07\xd0\0\0\0\x03key", true),
+        (
+            0,
+            b"\0\x01\x02\0\0\0\0\x02h\0\x07\xd0\0\0\0\x03key\0\0\0\0\0",
+            true,
+        ),
+        (1, b"\0\x01\0\0\0\0\0\x02h\0\x07\xd0\0\0\0\x03key", false),
+        (0, b"\0\x01\0\0\0\0\0\x02h\0\x07\xd0\0\0\0\x03ke", false),
+        (0, b"", false),
+        (
+            0,
+            b"\0\x01\x02\0\0\0\0\x02h\0\x07\xd0\0\0\0\x03key\0\xff\xff\xff\xff",
+            false,
+        ),
+    ];
+    for (tag, content, has) in &rows {
+        assert!(rt; content.len() < 1000);
+        match key_in(alloc, *tag, content)? {
+            Some(key) => assert!(rt; *has && key.bytes() == b"key".as_slice()),
+            None => assert!(rt; !*has),
+        }
     }
-    assert!(rt; key_in(alloc, 1, content)?.is_none());
-    assert!(rt; key_in(alloc, 0, &content[..18])?.is_none());
-    assert!(rt; key_in(alloc, 0, b"")?.is_none());
+    Ok(())
+}
+
+#[test]
+fn what_this_product_chose(rt: HostRuntime) -> Result<(), NoMemory> {
+    let alloc = rt.alloc();
+    let key = object_key(alloc, GroupId(258))?;
+    assert!(rt; key.bytes() == b"FTOG\0\0\0\0\0\0\x01\x02".as_slice());
+    match group_of_key(key.bytes()) {
+        Some(group) => assert_eq!(rt; group.0, 258),
+        None => assert!(rt; false, "no group"),
+    }
+    assert!(rt; group_of_key(b"FTOG\0\0\0\0\0\0\x01").is_none());
+    assert_eq!(rt; port_of(HostNo(255)), 2255);
+    let Ok(name) = Name::of(alloc, b"QueueEmpty") else {
+        return Err(NoMemory);
+    };
+    let id = repository_id(alloc, &name)?;
+    assert!(rt; id.bytes() == b"IDL:ftc/QueueEmpty:1.0".as_slice());
     Ok(())
 }

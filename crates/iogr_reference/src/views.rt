@@ -1,27 +1,22 @@
 //! The reference of a view.
-ghost use Rattle.std.specs.Prelude.{◌≡◌, ◌<◌, ◌≤◌, ◌^◌, length, [], ◌∷◌, map, IfOk, OnOk, true, None};
+ghost use Rattle.std.specs.Prelude.{◌≡◌, ◌+◌, ◌<◌, ◌≤◌, ◌^◌, length, map, IfOk, OnOk, true, None};
 ghost use Rattle.std.specs.List.{All};
 ghost use Rattle.ft_base.specs.Text.{zero_place};
 ghost use Rattle.cdr_codec.specs.declared.orders.Order.TheVariants as orders;
-ghost use Rattle.cdr_codec.specs.Calls.{appended, appended_each};
-ghost use Rattle.iogr_reference.specs.Formats.{component, components_at, iiop, group_tag, IsShort, AreShort, AreShortComponents, IsWritable};
-ghost use Rattle.iogr_reference.specs.Views.{encapsulated, iiop_with, member_iiop, profile_of_host, group_component as the_group_component, primary_component as the_primary_component, components_of, object_key, member_profile as the_profile, is_primary_host, reference_of};
+ghost use Rattle.cdr_codec.specs.Calls.{appended};
+ghost use Rattle.cdr_codec.specs.Encapsulations.{encapsulated};
+ghost use Rattle.cdr_codec.specs.Tagged.{IsShort};
+ghost use Rattle.iogr_reference.specs.Formats.{profile_parts, component_parts, components_at, iiop, group_tag, AreShort, AreShortComponents, IsWritable};
+ghost use Rattle.iogr_reference.specs.Views.{iiop_with, member_iiop, profile_of_host, group_component as the_group_component, primary_component as the_primary_component, components_of, member_profile as the_profile, is_primary_host, reference_of};
 
-use crate::insides::{GROUP_TAG, IIOP_TAG, PRIMARY_TAG};
+use crate::choices::{ADDRESS, DOMAIN};
+use crate::keys::object_key;
 use crate::lists::{Ports, Profiles};
 use crate::references::{Component, GroupTag, Ior, Profile};
-use cdr_codec::{CdrWriter, Order};
-use ft_base::{Bytes, GroupId, HostNo, Name, NoMemory, Version, View};
+use crate::tags::{GROUP_TAG, IIOP_TAG, PRIMARY_TAG};
+use cdr_codec::{CdrWriter, Order, begin_encapsulation, write_all_tagged};
+use ft_base::{Bytes, GroupId, HostNo, MEMBER_LIMIT, Name, NoMemory, Version, View};
 use std::alloc::Global;
-
-/// A writer behind the octet of the byte order.
-pub fn begin(alloc: Global) -> Result<CdrWriter, NoMemory>
-    ensures { IfOk result (λ w. w ≡ record { order = orders.Big; place = 0; text = 0 ∷ [] }) }
-{
-    let mut writer = CdrWriter::new(alloc, Order::Big, 0);
-    writer.write_octet(0)?;
-    Ok(writer)
-}
 
 #[tactic(auto, using(crate::proofs::ViewLemmas::group_tag_written))]
 fn write_group_tag(tag: &GroupTag, writer: &mut CdrWriter) -> Result<(), NoMemory>
@@ -40,18 +35,18 @@ fn write_group_tag(tag: &GroupTag, writer: &mut CdrWriter) -> Result<(), NoMemor
 fn tag_bytes(alloc: Global, tag: &GroupTag) -> Result<Bytes, NoMemory>
     requires no_zero { zero_place tag.now.domain ≡ None }
     requires short { length tag.now.domain < 2 ^ 31 }
-    ensures { IfOk result (λ bytes. bytes ≡ 0 ∷ group_tag.written orders.Big 1 tag.now) }
+    ensures { IfOk result (λ bytes. bytes ≡ encapsulated orders.Big group_tag tag.now) }
 {
-    let mut writer = begin(alloc)?;
+    let mut writer = begin_encapsulation(alloc, Order::Big)?;
     write_group_tag(tag, &mut writer)?;
     Ok(writer.finish())
 }
 
 fn group_component(alloc: Global, group: GroupId, version: Version) -> Result<Component, NoMemory>
     ensures component { IfOk result (λ c. c ≡ the_group_component group version) }
-    ensures short { IfOk result (λ c. IsShort c.content) }
+    ensures short { IfOk result (IsShort component_parts) }
 {
-    let domain = Bytes::of(alloc, b"ftc")?;
+    let domain = Bytes::of(alloc, DOMAIN.as_slice())?;
     let tag = GroupTag {
         domain,
         group,
@@ -66,9 +61,9 @@ fn group_component(alloc: Global, group: GroupId, version: Version) -> Result<Co
 
 fn primary_component(alloc: Global) -> Result<Component, NoMemory>
     ensures component { IfOk result (λ c. c ≡ the_primary_component) }
-    ensures short { IfOk result (λ c. IsShort c.content) }
+    ensures short { IfOk result (IsShort component_parts) }
 {
-    let mut writer = begin(alloc)?;
+    let mut writer = begin_encapsulation(alloc, Order::Big)?;
     writer.write_bool(true)?;
     Ok(Component {
         tag: PRIMARY_TAG,
@@ -97,40 +92,13 @@ fn components_for(
     Ok(components)
 }
 
-fn group_key(alloc: Global, group: GroupId) -> Result<Vec<u8>, NoMemory>
-    ensures key { IfOk result (λ key. key.items ≡ object_key group) }
-    ensures short { IfOk result (λ key. length key.items ≡ 12) }
-{
-    let mut key = Vec::from_slice(alloc, b"FTOG")?;
-    key.extend_from_slice(&group.0.to_be_bytes())?;
-    Ok(key)
-}
-
-fn write_component(one: &Component, writer: &mut CdrWriter) -> Result<(), NoMemory>
-    requires { IsShort one.now.content }
-    ensures { OnOk result (writer.new ≡ appended component.written one.now writer.old) }
-{
-    writer.write_u32(one.tag)?;
-    writer.write_octets(one.content.bytes())
-}
-
-fn each_component(components: &[Component], writer: &mut CdrWriter) -> Result<(), NoMemory>
-    requires { AreShortComponents components.now }
-    ensures { OnOk result (writer.new ≡ appended_each component.written components.now writer.old) }
-{
-    for one in components {
-        write_component(one, writer)?;
-    }
-    Ok(())
-}
-
 fn write_components(components: &[Component], writer: &mut CdrWriter) -> Result<(), NoMemory>
     requires count { length components.now < 2 ^ 32 }
     requires short { AreShortComponents components.now }
     ensures { OnOk result (writer.new ≡ appended (components_at 2).written components.now writer.old) }
 {
-    writer.write_u32(components.len() as u32)?;
-    each_component(components, writer)
+    write_all_tagged(components, writer)?;
+    Ok(())
 }
 
 #[tactic(auto, using(crate::proofs::ViewLemmas::iiop_written))]
@@ -147,7 +115,7 @@ fn write_member(
 {
     writer.write_octet(1)?;
     writer.write_octet(2)?;
-    writer.write_string(b"127.0.0.1")?;
+    writer.write_string(ADDRESS.as_slice())?;
     writer.write_u16(port)?;
     writer.write_octets(key)?;
     write_components(components, writer)?;
@@ -161,13 +129,13 @@ fn member_bytes(
     port: u16,
     is_primary: bool,
 ) -> Result<Bytes, NoMemory>
-    ensures bytes { IfOk result (λ bytes. bytes ≡ encapsulated iiop (member_iiop group version port is_primary)) }
-    ensures short { IfOk result IsShort }
+    ensures bytes { IfOk result (λ bytes. bytes ≡ encapsulated orders.Big iiop (member_iiop group version port is_primary)) }
+    ensures short { IfOk result (λ bytes. length bytes + 8 < 2 ^ 32) }
 {
     let components = components_for(alloc, group, version, is_primary)?;
-    let key = group_key(alloc, group)?;
-    let mut writer = begin(alloc)?;
-    write_member(port, key.as_slice(), components.as_slice(), &mut writer)?;
+    let key = object_key(alloc, group)?;
+    let mut writer = begin_encapsulation(alloc, Order::Big)?;
+    write_member(port, key.bytes(), components.as_slice(), &mut writer)?;
     Ok(writer.finish())
 }
 
@@ -179,7 +147,7 @@ fn member_profile(
     is_primary: bool,
 ) -> Result<Profile, NoMemory>
     ensures profile { IfOk result (λ p. p ≡ the_profile group version port is_primary) }
-    ensures short { IfOk result (λ p. IsShort p.content) }
+    ensures short { IfOk result (IsShort profile_parts) }
 {
     let content = member_bytes(alloc, group, version, port, is_primary)?;
     Ok(Profile {
@@ -206,7 +174,7 @@ fn profile_of(
 ) -> Result<Profile, NoMemory>
     requires { host < length ports.now }
     ensures profile { IfOk result (λ p. p ≡ profile_of_host group view.now ports.now host) }
-    ensures short { IfOk result (λ p. IsShort p.content) }
+    ensures short { IfOk result (IsShort profile_parts) }
 {
     let port = ports.as_slice()[host as usize];
     member_profile(
@@ -226,7 +194,7 @@ fn profiles_of(
 ) -> Result<Profiles, NoMemory>
     requires { All (λ host. host < length ports.now) view.now.members }
     ensures profiles { IfOk result (λ ps. ps ≡ map (profile_of_host group view.now ports.now) view.now.members) }
-    ensures count { IfOk result (λ ps. length ps ≤ 16) }
+    ensures count { IfOk result (λ ps. length ps ≤ MEMBER_LIMIT) }
     ensures short { IfOk result AreShort }
 {
     let mut profiles = Vec::with_capacity(alloc, view.members.len())?;

@@ -1,57 +1,28 @@
-ghost use Rattle.std.specs.Prelude.{◌≡◌, ◌<◌, ◌^◌, length, OnOk, OnErr};
-ghost use Rattle.cdr_codec.specs.Calls.{appended, appended_each, Keeps};
-ghost use Rattle.iogr_reference.specs.Formats.{profile, profiles, ior, AreCounted, IsWritable};
+ghost use Rattle.std.specs.Prelude.{◌≡◌, OnOk, OnErr};
+ghost use Rattle.cdr_codec.specs.Calls.{appended, Keeps};
+ghost use Rattle.iogr_reference.specs.Formats.{ior, AreNumbered, IsWritable};
+ghost use Rattle.iogr_reference.specs.Laws.{Wrote};
 
-use crate::references::{Ior, Profile};
-use cdr_codec::CdrWriter;
+use crate::references::Ior;
+use cdr_codec::{CdrWriter, write_all_tagged};
 use ft_base::NoMemory;
 
-fn write_profile(tagged: &Profile, writer: &mut CdrWriter) -> Result<(), NoMemory>
-    requires { length tagged.now.content < 2 ^ 32 }
-    ensures written { OnOk result (writer.new ≡ appended profile.written tagged.now writer.old) }
-    ensures kept { OnErr result (Keeps writer.old writer.new) }
-{
-    writer.write_u32(tagged.tag)?;
-    writer.write_octets(tagged.content.bytes())?;
-    Ok(())
-}
-
-fn each_profile(tagged: &[Profile], writer: &mut CdrWriter) -> Result<(), NoMemory>
-    requires { AreCounted tagged.now }
-    ensures written { OnOk result (writer.new ≡ appended_each profile.written tagged.now writer.old) }
-    ensures kept { OnErr result (Keeps writer.old writer.new) }
-{
-    for one in tagged {
-        write_profile(one, writer)?;
-    }
-    Ok(())
-}
-
-fn write_profiles(tagged: &[Profile], writer: &mut CdrWriter) -> Result<(), NoMemory>
-    requires count { length tagged.now < 2 ^ 32 }
-    requires counts { AreCounted tagged.now }
-    ensures written { OnOk result (writer.new ≡ appended profiles.written tagged.now writer.old) }
-    ensures kept { OnErr result (Keeps writer.old writer.new) }
-{
-    writer.write_u32(tagged.len() as u32)?;
-    each_profile(tagged, writer)?;
-    Ok(())
-}
-
+#[tactic(auto, using(crate::proofs::ViewLemmas::ior_written))]
 fn write_parts(reference: &Ior, writer: &mut CdrWriter) -> Result<(), NoMemory>
     requires { IsWritable reference.now }
     ensures written { OnOk result (writer.new ≡ appended ior.written reference.now writer.old) }
+    ensures numbered { OnOk result (AreNumbered reference.now.profiles) }
     ensures kept { OnErr result (Keeps writer.old writer.new) }
 {
     writer.write_string(reference.type_id.bytes())?;
-    write_profiles(reference.profiles.as_slice(), writer)?;
+    write_all_tagged(reference.profiles.as_slice(), writer)?;
     Ok(())
 }
 
-/// Writes a reference. A call that finds no memory leaves the writer as it was.
-pub fn write_ior(reference: &Ior, writer: &mut CdrWriter) -> Result<(), NoMemory>
+fn write_exactly(reference: &Ior, writer: &mut CdrWriter) -> Result<(), NoMemory>
     requires { IsWritable reference.now }
     ensures written { OnOk result (writer.new ≡ appended ior.written reference.now writer.old) }
+    ensures numbered { OnOk result (AreNumbered reference.now.profiles) }
     ensures left { OnErr result (writer.new ≡ writer.old) }
 {
     let length = writer.bytes().len();
@@ -62,4 +33,15 @@ pub fn write_ior(reference: &Ior, writer: &mut CdrWriter) -> Result<(), NoMemory
             Err(NoMemory)
         }
     }
+}
+
+/// Writes a reference. A call that finds no memory leaves the writer as it was.
+pub fn write_ior(reference: &Ior, writer: &mut CdrWriter) -> Result<(), NoMemory>
+    requires { IsWritable reference.now }
+    ensures spelled { OnOk result (Wrote ior writer.old reference.now writer.new) }
+    ensures valid { OnOk result (ior.Valid reference.now) }
+    ensures written { OnOk result (writer.new ≡ appended ior.written reference.now writer.old) }
+    ensures left { OnErr result (writer.new ≡ writer.old) }
+{
+    write_exactly(reference, writer)
 }

@@ -2,15 +2,16 @@
 use Rattle.std.specs.Prelude.{◌≡◌, ℕ, ◌<◌, ◌⊎◌, ◌++◌, List, [], ◌∷◌, length, map, take, codes, decimal, string_bytes, Option, Some, None, IfSome, option_map}
 use Rattle.std.specs.declared.string.String.{String}
 use Rattle.std.specs.declared.alloc.Global.{Global}
-use Rattle.ft_outside.specs.Outside.{Rose}
+use Rattle.ft_outside.specs.Outside.{next_count}
 use Rattle.fault_script.specs.Faults.{fault_text}
 use Rattle.fault_script.specs.declared.lines.LineFault.{LineFault}
 use Rattle.ft_world.specs.World.{empty}
-use Rattle.run_top.specs.Feeds.{Gained}
-use Rattle.run_top.specs.Runs.{Ran, run, runs}
-use Rattle.run_top.specs.Scripts.{whole_lines}
+use Rattle.script_pieces.specs.Feeds.{IsGain}
+use Rattle.script_pieces.specs.Runs.{RunEffect, run, whole_run}
+use Rattle.script_pieces.specs.Scripts.{IsAtEnd}
 use Rattle.run_top.specs.Playing.{rules}
 
+-- the run of the program: its output, its status, its text of errors, and its servant calls
 pub record Run : Type 0 where
   pub out : List ℕ
   pub status : ℕ
@@ -26,27 +27,35 @@ status_of (Some refused) = 3
 abbrev pub refusal_text : ℕ → LineFault → List ℕ
 refusal_text number why = codes "ftc: line " ++ decimal number ++ codes ": " ++ fault_text why ++ 10 ∷ []
 
+-- the text of errors: none where no line was refused
 abbrev pub error_text : Option (ℕ × LineFault) → List ℕ
 error_text None = []
 error_text (Some refused) = refusal_text refused.0 refused.1
 
-abbrev pub finished : Ran LineFault → Run
-finished ran = record { out = ran.out; status = status_of ran.refused; err = error_text ran.refused; calls = ran.calls }
+-- the program's run, of what its script does
+abbrev pub run_of : RunEffect LineFault → Run
+run_of effect = record {
+  out = effect.out;
+  status = status_of effect.refused;
+  err = error_text effect.refused;
+  calls = effect.calls;
+}
 
 -- the run of a script's bytes, from the empty world, up to the first line that is refused
 abbrev pub script_run : List ℕ → Run
-script_run bytes = finished (run rules empty bytes)
+script_run bytes = run_of (run rules empty bytes)
 
--- a text was written whole, or the sink's count of faults rose and it holds a front of the text
+-- a text was written whole, or one write of it failed and the sink holds a front of the text
 abbrev pub IsTold : Option (List ℕ) → Option (List ℕ) → ℕ → ℕ → List ℕ → Type 0
 IsTold before holds faults count text =
     ((holds ≡ option_map (λ held. held ++ text) before) × (count ≡ faults))
-    ⊎ ((n : ℕ) × (n < length text) × (holds ≡ option_map (λ held. held ++ take n text) before) × Rose faults count)
+    ⊎ ((n : ℕ) × (n < length text) × (holds ≡ option_map (λ held. held ++ take n text) before) × (count ≡ next_count faults))
 
 -- the words after the program's name are the one word `run`
 abbrev pub IsRun : List (String Global) → Type 0
 IsRun words = map string_bytes words ≡ codes "run" ∷ []
 
+-- what is told of words of no form
 abbrev pub usage_text : List ℕ
 usage_text = codes "ftc: usage: ftc run [--make N] | live --hosts H --clients C --calls K --style S [--kill X] [--after N]\n"
 
@@ -59,10 +68,10 @@ abbrev pub IsStatus : ℕ → Type 0
 IsStatus status = (status ≡ 0) ⊎ ((status ≡ 2) ⊎ ((status ≡ 3) ⊎ ((status ≡ 4) ⊎ ((status ≡ 5) ⊎ (status ≡ 6)))))
 
 -- a run stays as it is whatever follows what was read, or nothing is left
-abbrev pub IsSettled : List ℕ → Option (List ℕ) → Type 0
-IsSettled bytes left =
-    ((more : List ℕ) → script_run (bytes ++ more) ≡ script_run bytes) ⊎ (left ≡ option_map (λ _. []) left)
+abbrev pub IsFinal : List ℕ → Option (List ℕ) → Type 0
+IsFinal bytes left = ((more : List ℕ) → script_run (bytes ++ more) ≡ script_run bytes) ⊎ IsAtEnd left
 
+-- what is told of want of memory
 abbrev pub no_memory_text : List ℕ
 no_memory_text = codes "ftc: no memory\n"
 
@@ -74,12 +83,12 @@ pub record IfFault (status : ℕ) (P : List ℕ → Type 0) : Type 0 where
   pub memory : status ≡ 6 → P no_memory_text
 
 -- the run of those lines of a script that have their LF
-abbrev pub whole_run : List ℕ → Ran LineFault
-whole_run bytes = runs rules empty 1 0 (whole_lines bytes)
+abbrev pub run_of_whole_lines : List ℕ → RunEffect LineFault
+run_of_whole_lines bytes = whole_run rules empty bytes
 
 -- a sink that tells what it holds gained a front of this output
-abbrev pub GainedFront : Option (List ℕ) → Option (List ℕ) → List ℕ → Type 0
-GainedFront before holds out = (front : List ℕ) × (tail : List ℕ) × (out ≡ front ++ tail) × Gained before holds front
+abbrev pub IsFrontGain : Option (List ℕ) → Option (List ℕ) → List ℕ → Type 0
+IsFrontGain before holds out = (front : List ℕ) × (tail : List ℕ) × (out ≡ front ++ tail) × IsGain before holds front
 
 -- what holds where the source failed while it told what it has left
 abbrev pub IfUnread : ℕ → Option (List ℕ) → Type 0 → Type 0

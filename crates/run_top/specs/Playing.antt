@@ -5,38 +5,39 @@ use Rattle.fault_script.specs.declared.lines.Line.{Line}
 use Rattle.fault_script.specs.declared.lines.LimitName.TheVariants.{Script}
 use Rattle.fault_script.specs.declared.lines.LineFault.{LineFault}
 use Rattle.fault_script.specs.declared.lines.LineFault.TheVariants.{Limit}
-use Rattle.ft_report.specs.Report.{rendered}
+use Rattle.ft_report.specs.Report.{report_text}
 use Rattle.ft_world.specs.Acts.{act}
 use Rattle.ft_world.specs.World.{World}
 use Rattle.ft_world.specs.World as world
 use Rattle.fault_script.specs.declared.lines.LineFault.TheVariants as faults
-use Rattle.run_top.specs.Runs.{Rules, Turn, Goes, Stops}
-use Rattle.run_top.specs.declared.acting.Acted.{Acted}
-use Rattle.run_top.specs.declared.acting.Acted.TheVariants as acteds
+use Rattle.script_pieces.specs.Runs.{Rules, LineEffect, Goes, Stops}
+use Rattle.script_pieces.specs.declared.actors.LineResult.{LineResult}
+use Rattle.script_pieces.specs.declared.actors.LineResult.TheVariants as results
 
--- a turn of the world, with its report as bytes
-abbrev pub printed : world.Turn → Turn World LineFault
-printed (world.Goes next report calls) = Goes next (flat_map rendered report) calls
-printed (world.Refused why calls) = Stops why calls
+-- what a line does, with its report as bytes
+abbrev pub printed_effect : world.Turn → LineEffect World LineFault
+printed_effect (world.Goes next report calls) = Goes next (flat_map report_text report) calls
+printed_effect (world.Refused why calls) = Stops why calls
 
--- a line that reads as nothing does nothing
-abbrev pub played : World → Result (Option Line) LineFault → Turn World LineFault
-played w (Err why) = Stops why 0
-played w (Ok None) = Goes w [] 0
-played w (Ok (Some line)) = printed (act w line)
+-- what a text does by what it reads as; what reads as nothing does nothing
+abbrev pub effect_of : World → Result (Option Line) LineFault → LineEffect World LineFault
+effect_of w (Err why) = Stops why 0
+effect_of w (Ok None) = Goes w [] 0
+effect_of w (Ok (Some line)) = printed_effect (act w line)
 
+-- the lines of a script act on a world
 abbrev pub rules : Rules World LineFault
-rules = record { turn = λ w text. played w (parse text); past = Limit Script }
+rules = record { effect = λ w text. effect_of w (parse text); past = Limit Script }
 
--- the clock of a world that may act the line of this number
+-- a line adds at most 2^32 to the clock of its world, which a world that may act the line of this number keeps
 abbrev pub MayAct : World → ℕ → Type 0
 MayAct w number = w.clock ≤ 2 ^ 32 * number
 
--- a refusal as it is acted
-abbrev pub refusal : LineFault → Acted LineFault
-refusal faults.NoMemory = acteds.NoMemory
-refusal faults.Syntax = acteds.Stops faults.Syntax
-refusal faults.Unknown = acteds.Stops faults.Unknown
-refusal faults.Again = acteds.Stops faults.Again
-refusal (faults.Limit name) = acteds.Stops (faults.Limit name)
-refusal faults.Later = acteds.Stops faults.Later
+-- a refusal as it is acted: want of memory is none
+abbrev pub refusal : LineFault → LineResult LineFault
+refusal faults.NoMemory = results.NoMemory
+refusal faults.Syntax = results.Stops faults.Syntax
+refusal faults.Unknown = results.Stops faults.Unknown
+refusal faults.Again = results.Stops faults.Again
+refusal (faults.Limit name) = results.Stops (faults.Limit name)
+refusal faults.Later = results.Stops faults.Later

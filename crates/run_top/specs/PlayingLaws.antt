@@ -8,14 +8,14 @@ use Rattle.fault_script.specs.Words.{words}
 use Rattle.fault_script.specs.declared.lines.LimitName.TheVariants as limits
 use Rattle.fault_script.specs.declared.lines.LineFault.TheVariants.{Limit}
 use Rattle.ft_world.specs.World.{World}
-use Rattle.run_top.specs.Playing.{played, rules}
+use Rattle.run_top.specs.Playing.{effect_of, rules}
 
 long : (text : List ℕ) → 4096 < length text → parse text ≡ Err (Limit limits.Line)
 long text h = cond-true (nat_lt 4096 (length text)) (Err (Limit limits.Line)) (parse_words (words text)) (lt-ltb 4096 (length text) h)
 
-pub alike : (w : World) (text : List ℕ) → rules.turn w text ≡ rules.turn w (take 4097 text)
+pub alike : (w : World) (text : List ℕ) → rules.effect w text ≡ rules.effect w (take 4097 text)
 alike w text =
     ⊎_elim
-    (λ (h : 4096 < length text). ap (played w) (long text h ∙ sym (long (take 4097 text) (omega (arith, length-take 4097 text)))))
-    (λ (h : length text ≤ 4096). sym (ap (λ (xs : List ℕ). rules.turn w xs) (take_all 4097 text (omega arith))))
+    (λ (h : 4096 < length text). ap (effect_of w) (long text h ∙ sym (long (take 4097 text) (omega (arith, length-take 4097 text)))))
+    (λ (h : length text ≤ 4096). sym (ap (λ (xs : List ℕ). rules.effect w xs) (take_all 4097 text (omega arith))))
     (cases_lt 4096 (length text))

@@ -1,11 +1,11 @@
 ghost use Rattle.std.specs.Prelude.{◌≡◌};
 ghost use Rattle.run_top.specs.Playing.{refusal};
 
-use crate::acting::{Acted, Acts};
 use fault_script::{LimitName, Line, LineFault, read_line};
 use ft_base::{Bytes, Steps};
 use ft_report::render_all;
 use ft_world::World;
+use script_pieces::{Actor, LineResult};
 use std::alloc::Global;
 use std::marker::Model;
 use std::sync::ledger::Ledger;
@@ -24,16 +24,16 @@ impl Model for Script {
     ghost view = { λ s. s.world };
 }
 
-fn refusal(why: LineFault) -> Acted<LineFault>
+fn refusal(why: LineFault) -> LineResult<LineFault>
     ensures { result ≡ refusal why }
 {
     match why {
-        LineFault::NoMemory => Acted::NoMemory,
+        LineFault::NoMemory => LineResult::NoMemory,
         LineFault::Syntax
         | LineFault::Unknown
         | LineFault::Again
         | LineFault::Limit(_)
-        | LineFault::Later => Acted::Stops(why),
+        | LineFault::Later => LineResult::Stops(why),
     }
 }
 
@@ -41,8 +41,8 @@ impl Script {
     ghost use Rattle.std.specs.Prelude.{◌≡◌, ◌+◌, ◌^◌, ◌≤◌};
     ghost use Rattle.ft_world.specs.Acts.{act};
     ghost use Rattle.ft_world.specs.World.{empty};
-    ghost use Rattle.run_top.specs.Feeds.{IfGoes, IsActed};
-    ghost use Rattle.run_top.specs.Playing.{printed};
+    ghost use Rattle.script_pieces.specs.Feeds.{IfGoes, IsActed};
+    ghost use Rattle.run_top.specs.Playing.{printed_effect};
 
     /// A script of which no line was acted yet.
     pub fn new(alloc: Global) -> Script
@@ -59,22 +59,22 @@ impl Script {
         alloc: Global,
         line: Line,
         steps: &mut Steps<L>,
-    ) -> Acted<LineFault>
+    ) -> LineResult<LineFault>
         requires { self.old.clock ≤ 2 ^ 63 }
-        ensures acted { IsActed (printed (act self.old line)) self.new steps.old steps.new result }
+        ensures acted { IsActed (printed_effect (act self.old line)) self.new steps.old steps.new result }
         ensures clock { IfGoes result (self.new.clock ≤ self.old.clock + 2 ^ 32) }
     {
         match self.world.act(line, steps) {
             Ok(report) => match render_all(alloc, &report) {
-                Ok(printed) => Acted::Goes(printed),
-                Err(_) => Acted::NoMemory,
+                Ok(printed) => LineResult::Goes(printed),
+                Err(_) => LineResult::NoMemory,
             },
             Err(why) => refusal(why),
         }
     }
 }
 
-impl Acts for Script {
+impl Actor for Script {
     ghost use Rattle.run_top.specs.Playing.{MayAct, rules};
     ghost use Rattle.run_top.specs.PlayingLaws.{alike};
 
@@ -89,10 +89,10 @@ impl Acts for Script {
         alloc: Global,
         text: &[u8],
         steps: &mut Steps<L>,
-    ) -> Acted<LineFault> {
+    ) -> LineResult<LineFault> {
         match read_line(alloc, text) {
             Ok(Some(line)) => self.play(alloc, line, steps),
-            Ok(None) => Acted::Goes(Bytes::from_vec(Vec::new(alloc))),
+            Ok(None) => LineResult::Goes(Bytes::from_vec(Vec::new(alloc))),
             Err(why) => refusal(why),
         }
     }

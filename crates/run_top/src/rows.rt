@@ -30,7 +30,7 @@ const WRITES: [&[u8]; 6] = [
     b"at 0 bank append 1\nbytes 47494f5001020101140000000700000000000000000000000500000000000000\nlink closed\n",
 ];
 
-const ROWS: [Row; 12] = [
+const ROWS: [Row; 16] = [
     Row {
         script: b"",
         status: 0,
@@ -97,6 +97,36 @@ const ROWS: [Row; 12] = [
         script: b"hosts 1\ngroup bank account cold 0\ninject 0 47494f50010200030000001800000005000000000000000c46544f470000000000000001\n",
         status: 0,
         out: b"group bank 1\nview bank 1 members 0 primary 0\nbytes 47494f5001020004000000080000000500000001\nlink closed\n",
+        err: b"",
+    },
+    // A reply that comes again, and one of an earlier request while another is open, are heard by nobody; an invocation
+    // while another is open is none.
+    Row {
+        script: b"hosts 1\ngroup bank account cold 0\nclient ann\ncall ann bank deposit 5\ndeliver 1\ndeliver 1\ndeliver 2\ncall ann bank deposit 6\ncall ann bank deposit 7\ndeliver 3\ndeliver 2\n",
+        status: 0,
+        out: b"group bank 1\nview bank 1 members 0 primary 0\nmsg 1 client ann to host 0 request 1\nat 0 bank append 0\nmsg 2 host 0 to client ann reply 1 value 5\nat 0 bank repeat 0\nmsg 3 host 0 to client ann reply 1 value 5\ndone ann 1 value 5\nmsg 4 client ann to host 0 request 2\nbusy ann\nignored 3 reply\nignored 2 reply\n",
+        err: b"",
+    },
+    // Without an option a request expires 1,000 ticks after the clock at its call; a repeat then comes too late.
+    Row {
+        script: b"hosts 1\ngroup bank account cold 0\nclient ann\ntick 7\ncall ann bank deposit 5\ntick 999\ndeliver 1\ntick 1\ndeliver 1\n",
+        status: 0,
+        out: b"group bank 1\nview bank 1 members 0 primary 0\nmsg 1 client ann to host 0 request 1\nat 0 bank append 0\nmsg 2 host 0 to client ann reply 1 value 5\nat 0 bank expired 1007 1007\nmsg 3 host 0 to client ann reply 1 system BAD_CONTEXT 1 no\n",
+        err: b"",
+    },
+    // On links: a request with an older version of the reference is forwarded for good, one with a version that is not
+    // there yet is refused.
+    Row {
+        script: b"hosts 28\ngroup g1 account cold 17\ninject 17 47494f50010200000000004400000008ff4e0000000000000000000c46544f470000000000000001000000086465706f73697400000000010000000c00000008010000000000000000000000000000e7\ninject 17 47494f50010201004c0000000500000003f50000000000000c00000046544f4700000000000000010900000064c3bf706f73697400000000020000000100000003000000000102000c0000000800000000000000ffffffff47494f50\n",
+        status: 0,
+        out: b"group g1 1\nview g1 1 members 17 primary 17\nat 17 g1 older 0 1\nbytes 47494f5001020001000000860000000800000004000000000000001449444c3a6674632f4163636f756e743a312e3000000000010000000000000056000102000000000a3132372e302e302e310007e10000000c46544f470000000000000001000000020000001b0000001c000100000000000466746300000000000000000000000001000000010000001c000000020001\nlink closed\nat 17 g1 newer 4294967295 1\nbytes 47494f50010201013c0000000500000002000000000000002100000049444c3a6f6d672e6f72672f434f5242412f494e565f4f424a5245463a312e30000000000100000001000000\nlink malformed cut 4\n",
+        err: b"",
+    },
+    // On a link to a host that is no member.
+    Row {
+        script: b"hosts 22\ngroup g1 account cold 9\ngroup g2 account cold 12\ninject 14 47494f50010200000000005400000007ff0031bd000000000000000c46544f470000000000000001000000086465706f73697400000000010000000d000000180100000003000000693100000200000000000000000000007fffffffffffffff47494f5001020000000000440000000003560000000066660000000c46544f470000000000000001000000086465706f73697400000000010000000c000000080000000000000001000000000000000747494f50010200010000000c00000001000000070000000047494f50010201034600000005000000010000000500000033000000000103000000000a3132372e302e302e310007d00000000c46544f470000000000000001000000010000001c0000000307070701020347494f50010201007c0000000000000003000000000000000c00000046544f470000000000000001080000006465706f73697400030000000100000003000000000102000d00000018000000000000000000000369310000ffffffff00000000000000010c00000008000000010000000200000000000000d8fcffffffffff7f0000000000000000\n",
+        status: 0,
+        out: b"group g1 1\nview g1 1 members 9 primary 9\ngroup g2 2\nview g2 1 members 12 primary 12\nat 14 g1 stranger 1\nbytes 47494f5001020001000000400000000700000002000000000000002749444c3a6f6d672e6f72672f434f5242412f4f424a4543545f4e4f545f45584953543a312e3000000000000200000001\nat 14 g1 stranger 1\nbytes 47494f5001020001000000400000000000000002000000000000002749444c3a6f6d672e6f72672f434f5242412f4f424a4543545f4e4f545f45584953543a312e3000000000000200000001\nbytes 47494f500102000600000000\nlink malformed status 16\n",
         err: b"",
     },
     Row {

@@ -1,16 +1,16 @@
-ghost use Rattle.std.specs.Prelude.{◌≡◌, ◌≢◌, ◌+◌, ◌-◌, ◌^◌, ◌<◌, ◌≤◌, ◌↔◌, ◌⊎◌, ◌++◌, ◌==◌, if◌then◌else◌, [], ◌∷◌, codes, map, IfOk, IfSome, IsTrue, option_map, string_bytes};
+ghost use Rattle.std.specs.Prelude.{◌≡◌, ◌≢◌, ◌+◌, ◌-◌, ◌^◌, ◌<◌, ◌≤◌, ◌↔◌, ◌⊎◌, ◌++◌, ◌==◌, if◌then◌else◌, [], ◌∷◌, codes, map, IfOk, IfSome, IsTrue, string_bytes, None};
 ghost use Rattle.std.specs.String.{string_bytes};
-ghost use Rattle.ft_outside.specs.Outside.{Rose};
-ghost use Rattle.run_top.specs.Feeds.{Gained};
-ghost use Rattle.run_top.specs.Scripts.{bytes_read};
-ghost use Rattle.run_top.specs.Headline.{GainedFront, IfFault, IfRan, IfStopped, IfUnread, IsRun, IsSettled, IsStatus, IsTold, no_memory_text, refusal_text, script_run, whole_run};
+ghost use Rattle.ft_outside.specs.Outside.{next_count};
+ghost use Rattle.script_pieces.specs.Feeds.{IsGain};
+ghost use Rattle.script_pieces.specs.Scripts.{IsAtEnd, bytes_read};
+ghost use Rattle.run_top.specs.Headline.{IsFinal, IsFrontGain, IfFault, IfRan, IfStopped, IfUnread, IsRun, IsStatus, IsTold, no_memory_text, refusal_text, run_of_whole_lines, script_run};
 
 use crate::playing::Script;
-use crate::scripts::{Ended, run_script};
 use fault_script::LineFault;
 use ft_base::{NoMemory, Steps};
-use ft_outside::{Sink, Source, Wrote, write_all};
+use ft_outside::{Sink, Source, WholeWrite, write_all};
 use itoa::Buffer;
+use script_pieces::{RunEnd, run_script};
 use std::alloc::Global;
 use std::sync::ledger::Ledger;
 
@@ -43,8 +43,8 @@ fn end<E: Sink>(err: &mut E, status: u8, text: &[u8]) -> u8
     ensures told { IsTold (E.holds err.old) (E.holds err.new) (E.count err.old) (E.count err.new) text.now }
 {
     match write_all(err, text) {
-        Wrote::All => status,
-        Wrote::Failed => status,
+        WholeWrite::All => status,
+        WholeWrite::Failed => status,
     }
 }
 
@@ -86,7 +86,7 @@ pub fn ftc_run<A: Source, B: Sink, E: Sink, L: Ledger>(
     // Where the source tells what it has left: at status 0 or 3 the run is that of the bytes read.
     ensures status { IfRan result (A.left input.old) (result ≡
         (script_run (bytes_read (A.left input.old) (A.left input.new))).status) }
-    ensures output { IfRan result (A.left input.old) (Gained (B.holds out.old) (B.holds out.new)
+    ensures output { IfRan result (A.left input.old) (IsGain (B.holds out.old) (B.holds out.new)
         (script_run (bytes_read (A.left input.old) (A.left input.new))).out) }
     ensures errors { IfRan result (A.left input.old) (IsTold (E.holds err.old) (E.holds err.new) (E.count err.old) (E.count err.new)
         (script_run (bytes_read (A.left input.old) (A.left input.new))).err) }
@@ -94,25 +94,29 @@ pub fn ftc_run<A: Source, B: Sink, E: Sink, L: Ledger>(
         (script_run (bytes_read (A.left input.old) (A.left input.new))).calls) }
 
     // At 0 the source is at its end. At 3 the refusal stands whatever follows, or the source is at its end.
-    ensures at_end { result ≡ 0 → A.left input.new ≡ option_map (λ _. []) (A.left input.new) }
-    ensures settled { result ≡ 3 → IfSome (A.left input.old) (λ _. IsSettled
+    ensures at_end { result ≡ 0 → IsAtEnd (A.left input.new) }
+    ensures settled { result ≡ 3 → IfSome (A.left input.old) (λ _. IsFinal
         (bytes_read (A.left input.old) (A.left input.new)) (A.left input.new)) }
 
-    // A fault is answered exactly where the count of its object rose.
-    ensures read_fault { result ≡ 4 → Rose (A.count input.old) (A.count input.new) }
+    // A fault is answered exactly where its object failed once.
+    ensures read_fault { result ≡ 4 → A.count input.new ≡ next_count (A.count input.old) }
     ensures no_read_fault { result ≢ 4 → A.count input.new ≡ A.count input.old }
-    ensures write_fault { result ≡ 5 → Rose (B.count out.old) (B.count out.new) }
+    ensures write_fault { result ≡ 5 → B.count out.new ≡ next_count (B.count out.old) }
     ensures no_write_fault { result ≢ 5 → B.count out.new ≡ B.count out.old }
 
     // Where the source failed, what is out is the output of the lines that were read whole.
-    ensures whole_output { IfUnread result (A.left input.old) (Gained (B.holds out.old) (B.holds out.new)
-        (whole_run (bytes_read (A.left input.old) (A.left input.new))).out) }
+    ensures whole_output { IfUnread result (A.left input.old) (IsGain (B.holds out.old) (B.holds out.new)
+        (run_of_whole_lines (bytes_read (A.left input.old) (A.left input.new))).out) }
     ensures whole_calls { IfUnread result (A.left input.old) (steps.new ≡ steps.old +
-        (whole_run (bytes_read (A.left input.old) (A.left input.new))).calls) }
+        (run_of_whole_lines (bytes_read (A.left input.old) (A.left input.new))).calls) }
+
+    // None of them was refused.
+    ensures whole_unrefused { IfUnread result (A.left input.old)
+        ((run_of_whole_lines (bytes_read (A.left input.old) (A.left input.new))).refused ≡ None) }
 
     // Where the output failed or memory was wanted, what is out is a front of the run's output, and no more
     // calls were made than the run has.
-    ensures front_output { IfStopped result (A.left input.old) (GainedFront (B.holds out.old) (B.holds out.new)
+    ensures front_output { IfStopped result (A.left input.old) (IsFrontGain (B.holds out.old) (B.holds out.new)
         (script_run (bytes_read (A.left input.old) (A.left input.new))).out) }
     ensures front_calls { IfStopped result (A.left input.old) (steps.new ≤ steps.old +
         (script_run (bytes_read (A.left input.old) (A.left input.new))).calls) }
@@ -131,10 +135,10 @@ pub fn ftc_run<A: Source, B: Sink, E: Sink, L: Ledger>(
     }
     let mut script = Script::new(alloc);
     match run_script(alloc, &mut script, input, out, steps) {
-        Ended::Done => 0,
-        Ended::Refused(number, why) => refuse(alloc, err, number, why),
-        Ended::ReadFailed => end(err, 4, b"ftc: read fault\n"),
-        Ended::WriteFailed => end(err, 5, b"ftc: write fault\n"),
-        Ended::NoMemory => end(err, 6, b"ftc: no memory\n"),
+        RunEnd::Done => 0,
+        RunEnd::Refused(number, why) => refuse(alloc, err, number, why),
+        RunEnd::ReadFailed => end(err, 4, b"ftc: read fault\n"),
+        RunEnd::WriteFailed => end(err, 5, b"ftc: write fault\n"),
+        RunEnd::NoMemory => end(err, 6, b"ftc: no memory\n"),
     }
 }

@@ -1,9 +1,10 @@
 -- The account: a balance from 0 to 9,223,372,036,854,775,807, and what the operations make of it.
-use Rattle.std.specs.Prelude.{ℕ, ◌+◌, ◌-◌, ◌%◌, ◌^◌, ◌<◌, ◌≡◌, Bool, false, nat_lt, if◌then◌else◌, ℤ, pos, negsuc, List, [], Option, Some, None, option_map, codes, replicate}
-use Rattle.std.specs.Str.{bytes_eq}
+use Rattle.std.specs.Prelude.{ℕ, ◌+◌, ◌-◌, ◌^◌, Bool, nat_lt, if◌then◌else◌, ℤ, pos, negsuc, List, [], Option, Some, None, option_map, codes, replicate}
 use Rattle.std.specs.Int.{cast_signed, w64}
 use Rattle.byteorder.specs.Endian.{big_bytes, big_number}
 use Rattle.ft_base.specs.Canonical.{number_at}
+use Rattle.ft_base.specs.Coding as codings
+use Rattle.ft_base.specs.Coding.{Coding, machine_of, said}
 use Rattle.ft_base.specs.Machine.{Machine}
 use Rattle.ft_base.specs.declared.requests.Request.{Request}
 use Rattle.ft_base.specs.declared.requests.Outcome.{Outcome}
@@ -12,22 +13,20 @@ use Rattle.servant_account.specs.Operations.{operation_of, signature_of}
 use Rattle.servant_account.specs.declared.operations.Operation.{Operation}
 use Rattle.servant_account.specs.declared.operations.Operation.TheVariants.{Deposit, Withdraw, Balance}
 
--- a balance's state bytes: a balance has 63 bits, so their sign is clear
-abbrev pub state_of : ℕ → List ℕ
-state_of balance = big_bytes 8 (balance % 2 ^ 63)
+-- a balance is below 2^63
+abbrev pub is_balance : ℕ → Bool
+is_balance balance = nat_lt balance (2 ^ 63)
 
--- the balance that state bytes say
-abbrev pub balance_of : List ℕ → ℕ
-balance_of state = big_number 8 state
+-- a balance's state bytes
+abbrev pub spelled : ℕ → List ℕ
+spelled balance = big_bytes 8 balance
 
--- these are the state bytes of some balance
-abbrev pub is_state : List ℕ → Bool
-is_state state = bytes_eq state (state_of (balance_of state))
+abbrev pub read : List ℕ → Option ℕ
+read bytes = Some (big_number 8 bytes)
 
--- what bytes say: the balance of which they are the state bytes; none where they are no state
-abbrev pub Says : List ℕ → Option ℕ → Type 0
-Says bytes None = is_state bytes ≡ false
-Says bytes (Some balance) = (balance < 2 ^ 63) × (bytes ≡ state_of balance)
+-- the balance whose state bytes these are
+unfoldable pub balance_in : List ℕ → Option ℕ
+balance_in bytes = said is_balance spelled read bytes
 
 -- the state of an account that opens: 8 bytes of 0
 abbrev pub opening_state : List ℕ
@@ -66,13 +65,23 @@ ran (Some Balance) balance args = (balance, told balance)
 abbrev pub step_of : ℕ → Request → ℕ × Outcome
 step_of balance request = ran (operation_of request.op) balance request.args
 
--- the account as a servant, over its state bytes; an update is the later state itself, so that to take it
--- twice is to take it once
-abbrev pub account_machine : Machine
-account_machine = record {
+-- the account as a servant; an update is the later state itself, so that to take it twice is to take it once
+unfoldable pub account : Coding ℕ
+account = record {
   signature = λ op. option_map signature_of (operation_of op);
-  is_state = is_state;
-  step = λ state request. let next = step_of (balance_of state) request in (state_of next.0, next.1);
-  delta = λ base later. later;
-  applied = λ state update. if is_state update then Some update else None;
+  opening = 0;
+  valid = is_balance;
+  spelled = spelled;
+  read = read;
+  step = step_of;
+  delta = λ base later. spelled later;
+  applied = λ balance update. balance_in update;
 }
+
+-- the same over state bytes
+abbrev pub account_machine : Machine
+account_machine = machine_of account
+
+-- the state bytes of an account with this balance
+abbrev pub state_of : ℕ → List ℕ
+state_of balance = codings.state_of account balance

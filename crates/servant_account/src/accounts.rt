@@ -1,6 +1,7 @@
 ghost use Rattle.std.specs.Prelude.{◌≡◌, ◌<◌, ◌^◌, ◌≤ℤ◌, ℕ, pos};
+ghost use Rattle.ft_base.specs.CodingLaws as codings;
 ghost use Rattle.servant_account.specs.Account.{account_machine, state_of};
-ghost use Rattle.servant_account.specs.Laws as laws;
+ghost use Rattle.servant_account.specs.Laws.{owes};
 
 use crate::operations::{Operation, balance_in, number_bytes};
 use ft_base::{
@@ -47,6 +48,7 @@ impl Servant for Account {
 
     ghost state = { state_of };
 
+    #[tactic(auto, using(crate::proofs::States::signature_is))]
     fn signature(&self, op: &Name) -> Option<Signature> {
         match Operation::named(op) {
             Some(operation) => Some(operation.signature()),
@@ -54,7 +56,6 @@ impl Servant for Account {
         }
     }
 
-    #[tactic(auto, using(crate::specs::Laws::step_ran))]
     fn invoke<L: Ledger>(
         &mut self,
         alloc: Global,
@@ -75,11 +76,13 @@ impl Servant for Account {
         }
     }
 
+    #[tactic(auto, using(crate::proofs::States::bytes_of_state))]
     fn get_state(&self, alloc: Global) -> Result<Bytes, NoMemory> {
-        number_bytes(alloc, self.balance)
+        let bytes = number_bytes(alloc, self.balance)?;
+        Ok(bytes)
     }
 
-    #[tactic(auto, using(crate::proofs::States::said_is_state))]
+    #[tactic(auto, using(crate::proofs::States::set_to, crate::proofs::States::is_set, crate::proofs::States::is_unset))]
     fn set_state(&mut self, _alloc: Global, bytes: &Bytes) -> Result<(), StateFault> {
         match balance_in(bytes) {
             Some(balance) => {
@@ -91,10 +94,11 @@ impl Servant for Account {
     }
 
     fn get_update(&self, alloc: Global, _base: &Account) -> Result<Bytes, NoMemory> {
-        self.get_state(alloc)
+        let bytes = number_bytes(alloc, self.balance)?;
+        Ok(bytes)
     }
 
-    #[tactic(auto, using(crate::proofs::States::said_is_taken, crate::proofs::States::unsaid_is_refused))]
+    #[tactic(auto, using(crate::proofs::States::updated_to, crate::proofs::States::not_updated))]
     fn set_update(&mut self, _alloc: Global, update: &Bytes) -> Result<(), UpdateFault> {
         match balance_in(update) {
             Some(later) => {
@@ -111,17 +115,17 @@ impl Servant for Account {
         })
     }
 
-    ghost has_state = { laws.has_state };
+    ghost has_state = { codings.has_state owes };
 
-    ghost stays = { laws.stays };
+    ghost stays = { λ k. codings.stays owes };
 
-    ghost gives = { laws.gives };
+    ghost gives = { λ k. codings.gives owes };
 
-    ghost sized = { laws.sized };
+    ghost sized = { λ k. codings.sized owes };
 
-    ghost update_sized = { laws.update_sized };
+    ghost update_sized = { λ k. codings.update_sized owes };
 
-    ghost update_stays = { laws.update_stays };
+    ghost update_stays = { λ k. codings.update_stays owes };
 
-    ghost updates = { laws.updates };
+    ghost updates = { λ k. codings.updates owes };
 }

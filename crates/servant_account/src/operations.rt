@@ -1,11 +1,11 @@
-ghost use Rattle.std.specs.Prelude.{◌≡◌, ◌<◌, ◌^◌, ◌∷◌, [], None, Some, length, IfOk};
+ghost use Rattle.std.specs.Prelude.{◌≡◌, ◌<◌, ◌^◌, ◌∷◌, [], None, Some, length, IfOk, IfSome};
 ghost use Rattle.byteorder.specs.Endian.{big_bytes, big_number};
 ghost use Rattle.ft_base.specs.Canonical.{IsCanonical};
 ghost use Rattle.ft_base.specs.Machine.{FitsAs};
 ghost use Rattle.ft_base.specs.Text.{name_refusal};
 ghost use Rattle.ft_base.specs.declared.requests.Outcome.TheVariants.{User};
 ghost use Rattle.ft_base.specs.declared.requests.Par.TheVariants.{I64};
-ghost use Rattle.servant_account.specs.Account.{Says, amount_of, deposited, ran, told, withdrawn};
+ghost use Rattle.servant_account.specs.Account.{amount_of, balance_in as balance_said, deposited, ran, told, withdrawn};
 ghost use Rattle.servant_account.specs.Operations.{operation_of, signature_of};
 
 use cdr_codec::{CdrReader, CdrWriter, Order};
@@ -59,9 +59,9 @@ fn number_in(bytes: &[u8]) -> u64
 }
 
 /// The balance that state bytes say: eight bytes, the highest first, whose highest bit is clear.
-#[tactic(auto, using(crate::proofs::States::no_state_by_length, crate::proofs::States::no_state_by_sign, crate::proofs::States::state_read))]
 pub fn balance_in(bytes: &Bytes) -> Option<u64>
-    ensures { Says bytes.now result }
+    ensures said { result ≡ balance_said bytes.now }
+    ensures range { IfSome result (λ balance. balance < 2 ^ 63) }
 {
     let digits = bytes.bytes();
     if digits.len() != 8 {

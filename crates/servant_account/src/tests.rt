@@ -1,13 +1,14 @@
-ghost use Rattle.std.specs.Prelude.{◌≡◌, ◌<◌, Some, length, IfOk};
-ghost use Rattle.ft_base.specs.Machine.{Fits, FitsAs};
+ghost use Rattle.std.specs.Prelude.{◌≡◌, ◌<◌, ◌≤◌, Some, length, IfOk};
+ghost use Rattle.ft_base.specs.Machine.{Fits};
 ghost use Rattle.servant_account.specs.Account.{account_machine};
-ghost use Rattle.servant_account.specs.Operations.{operation_of, signature_of};
+ghost use Rattle.servant_account.specs.Operations.{operation_of};
 
 use crate::accounts::Account;
 use crate::operations::{Operation, number_bytes};
+use cdr_codec::{Order, Raw, args_of};
 use ft_base::{
     Bytes, Name, NoMemory, Outcome, Request, Servant, StateFault, Steps, UpdateFault, move_state,
-    move_update,
+    move_update, requests_lead_on,
 };
 use std::alloc::Global;
 use std::marker::Brand;
@@ -25,36 +26,53 @@ fn name_of(operation: Operation) -> &'static [u8]
     }
 }
 
-fn args_of(alloc: Global, operation: Operation, amount: u64) -> Result<Bytes, NoMemory>
-    ensures { IfOk result (λ args. FitsAs (Some (signature_of operation)) args) }
+fn body_of(alloc: Global, operation: Operation, amount: i64) -> Result<Bytes, NoMemory>
+    ensures { IfOk result (λ body. length body ≤ 8) }
 {
     match operation {
         Operation::Balance => Ok(Bytes::from_vec(Vec::new(alloc))),
         _ => {
-            let args = number_bytes(alloc, amount)?;
-            Ok(args)
+            let body = number_bytes(alloc, amount.cast_unsigned())?;
+            Ok(body)
         }
     }
 }
 
-fn request_of(alloc: Global, operation: Operation, amount: u64) -> Result<Request, NoMemory>
+fn request_of(
+    alloc: Global,
+    account: &Account,
+    operation: Operation,
+    amount: i64,
+) -> Result<Request, NoMemory>
     ensures { IfOk result (λ request. Fits account_machine request) }
 {
     let op = match Name::of(alloc, name_of(operation)) {
         Ok(op) => op,
         Err(_) => return Err(NoMemory),
     };
-    let args = args_of(alloc, operation, amount)?;
-    Ok(Request {
-        key: None,
-        op,
-        args,
-    })
+    let signature = match account.signature(&op) {
+        Some(signature) => signature,
+        None => return Err(NoMemory),
+    };
+    let bytes = body_of(alloc, operation, amount)?;
+    let body = Raw {
+        order: Order::Big,
+        align: 0,
+        bytes,
+    };
+    match args_of(alloc, &body, &signature) {
+        Ok(args) => Ok(Request {
+            key: None,
+            op,
+            args,
+        }),
+        Err(_) => Err(NoMemory),
+    }
 }
 
 // The opening balance, the amount's eight bytes, the exception (none where a balance is told), and
 // the balance after: at the boundaries of each operation.
-const ROWS: [(Operation, i64, u64, &str, u64); 14] = [
+const ROWS: [(Operation, i64, i64, &str, u64); 14] = [
     (Operation::Deposit, 0, 5, "", 5),
     (Operation::Deposit, 7, 0, "", 7),
     (
@@ -85,19 +103,13 @@ const ROWS: [(Operation, i64, u64, &str, u64); 14] = [
         "Overflow",
         0x7fff_ffff_ffff_ffff,
     ),
-    (Operation::Deposit, 9, 0xffff_ffff_ffff_ffff, "BadAmount", 9),
-    (Operation::Deposit, 9, 0x8000_0000_0000_0000, "BadAmount", 9),
+    (Operation::Deposit, 9, -1, "BadAmount", 9),
+    (Operation::Deposit, 9, i64::MIN, "BadAmount", 9),
     (Operation::Withdraw, 9, 9, "", 0),
     (Operation::Withdraw, 9, 10, "Insufficient", 9),
     (Operation::Withdraw, 0, 0, "", 0),
     (Operation::Withdraw, 0, 1, "Insufficient", 0),
-    (
-        Operation::Withdraw,
-        9,
-        0xffff_ffff_ffff_ffff,
-        "BadAmount",
-        9,
-    ),
+    (Operation::Withdraw, 9, -1, "BadAmount", 9),
     (Operation::Balance, 9, 0, "", 9),
 ];
 
@@ -109,7 +121,7 @@ fn each_row<L: Ledger>(
     for (operation, opening, amount, exception, left) in &ROWS {
         assert!(rt; *opening >= 0);
         let mut account = Account::new(*opening);
-        let request = request_of(alloc, *operation, *amount)?;
+        let request = request_of(alloc, &account, *operation, *amount)?;
         let outcome = account.invoke(alloc, &request, steps)?;
         let state = account.get_state(alloc)?;
         assert!(rt;
@@ -140,8 +152,9 @@ fn each_move<L: Ledger>(
 ) -> Result<(), NoMemory> {
     let base = Account::new(3);
     let mut from = base.copy(alloc)?;
-    let request = request_of(alloc, Operation::Deposit, 6)?;
+    let request = request_of(alloc, &from, Operation::Deposit, 6)?;
     from.invoke(alloc, &request, steps)?;
+    requests_lead_on();
     let mut to = base.copy(alloc)?;
     move_update(alloc, &from, &base, &mut to)?;
     let nine = 9u64.to_be_bytes();

@@ -7,15 +7,15 @@ use Rattle.cdr_codec.specs.declared.faults.CdrWhy.{CdrWhy}
 use Rattle.cdr_codec.specs.declared.faults.CdrWhy.TheVariants.{Short}
 use Rattle.cdr_codec.specs.declared.bodies.Raw.{Raw}
 use Rattle.cdr_codec.specs.Reading.{Read, reader_at}
-use Rattle.cdr_codec.specs.Formats.{number, followed}
-use Rattle.cdr_codec.specs.Values.{text}
+use Rattle.cdr_codec.specs.Structs.{appended_fields}
 use Rattle.cdr_codec.specs.Laws.{IsCodec}
-use Rattle.cdr_codec.specs.Calls.{Writer, appended}
+use Rattle.cdr_codec.specs.Calls.{Writer, appended, Tells, Refuses}
 use Rattle.cdr_codec.specs.Arguments.{body_reader}
 use Rattle.cdr_codec.proofs.Steps.{ok_is, ok_err, err_ok}
-use Rattle.cdr_codec.proofs.Codecs.{number_codec, followed_codec}
+use Rattle.cdr_codec.proofs.Codecs.{number_codec}
+use Rattle.cdr_codec.proofs.StructLaws.{struct_codec, struct_written}
+use Rattle.cdr_codec.proofs.CodecLaws.{told_found, told_refused}
 use Rattle.cdr_codec.proofs.ValueLaws.{text_codec}
-use Rattle.cdr_codec.proofs.Writing.{pair_written}
 use Rattle.cdr_codec.specs.declared.orders.Order.{Order}
 use Rattle.ft_base.specs.Text.{zero_place}
 use Rattle.ft_base.specs.declared.memory.NoMemory.{NoMemory as OutOfMemory}
@@ -28,19 +28,14 @@ use Rattle.sys_faults.specs.declared.faults.SysKind.TheVariants.{ObjectNotExist,
 use Rattle.sys_faults.specs.declared.faults.SysFault.{SysFault}
 use Rattle.sys_faults.specs.declared.reading.SysReadFault.{SysReadFault}
 use Rattle.sys_faults.specs.declared.reading.SysReadFault.TheVariants as wrongs
-use Rattle.sys_faults.specs.Bodies.{id_of, named_kinds, kind_named, kind_of, status_of, completed_of, fields, fields_of, fault_if, fault_of, fault_read, fault_in, SpellsFault, Answers, Refuses, IsOtherId, OnUnknown}
+use Rattle.sys_faults.specs.Bodies.{id_of, named_kinds, kind_named, kind_of, status_of, completed_of, Told, told_with, told_fields, told, told_of, fault_if, fault_of, fault_read, fault_in, wrong_body, SpellsFault, IsOtherId, OnUnknown}
 
 -- the fields are the id, the minor code, and then the status
-pub fields_written : (x : List ℕ × (ℕ × ℕ)) (w : Writer)
-    → appended fields.written x w ≡ appended (number 4).written x.1.1 (appended (number 4).written x.1.0 (appended text.written x.0 w))
-fields_written x w =
-    pair_written text.written (λ id. (followed (number 4) (λ minor. number 4)).written) x w
-    ∙ pair_written (number 4).written (λ minor. (number 4).written) x.1 (appended text.written x.0 w)
+pub told_written : (x : Told) (w : Writer) → appended told.written x w ≡ appended_fields told_fields x w
+told_written x w = struct_written told_fields x w
 
-pub fields_codec : IsCodec Short fields
-fields_codec =
-    followed_codec Short text (λ id. followed (number 4) (λ minor. number 4)) text_codec
-    (λ id. followed_codec Short (number 4) (λ minor. number 4) (number_codec 4) (λ minor. number_codec 4))
+pub told_codec : IsCodec Short told
+told_codec = struct_codec Short told_fields (text_codec, λ id. (number_codec 4, λ minor. (number_codec 4, λ status. tt)))
 
 -- ---- ids and statuses
 
@@ -75,61 +70,62 @@ completed_back Maybe = refl
 
 -- ---- a body is the exception that is read there
 
-record Tells (x : List ℕ × (ℕ × ℕ)) (told : SysFault) : Type 0 where
-  pub is : fields_of told ≡ x
-  pub named : kind_of (id_of told.kind) ≡ told.kind
+record IsToldBy (x : Told) (fault : SysFault) : Type 0 where
+  pub is : told_of fault ≡ x
+  pub named : kind_of (id_of fault.kind) ≡ fault.kind
 
-tells_same : (x : List ℕ × (ℕ × ℕ)) (c : Completed) → completed_of x.1.1 ≡ Some c → Tells x (record { kind = kind_of x.0; minor = x.1.0; completed = c })
+tells_same : (x : Told) (c : Completed) → completed_of x.status ≡ Some c → IsToldBy x (record { kind = kind_of x.id; minor = x.minor; completed = c })
 tells_same x c e = record {
-  is = ap (λ (id : List ℕ). (id, (x.1.0, status_of c))) (id_of_kind x.0) ∙ ap (λ (n : ℕ). (x.0, (x.1.0, n))) (status_back x.1.1 c e);
-  named = ap kind_of (id_of_kind x.0);
+  is = ap (λ (id : List ℕ). told_with id x.minor (status_of c)) (id_of_kind x.id) ∙ ap (told_with x.id x.minor) (status_back x.status c e);
+  named = ap kind_of (id_of_kind x.id);
 }
 
-tells_if : (x : List ℕ × (ℕ × ℕ)) (o : Option Completed) (told : SysFault) → completed_of x.1.1 ≡ o → fault_if x o ≡ Ok told → Tells x told
-tells_if x None told h e = absurd (err_ok told (wrongs.BadCompleted x.1.1) e)
-tells_if x (Some c) told h e = subst (Tells x) (ok_is (record { kind = kind_of x.0; minor = x.1.0; completed = c }) told e) (tells_same x c h)
+tells_if : (x : Told) (o : Option Completed) (fault : SysFault) → completed_of x.status ≡ o → fault_if x o ≡ Ok fault → IsToldBy x fault
+tells_if x None fault h e = absurd (err_ok fault (wrongs.BadCompleted x.status) e)
+tells_if x (Some c) fault h e = subst (IsToldBy x) (ok_is (record { kind = kind_of x.id; minor = x.minor; completed = c }) fault e) (tells_same x c h)
 
-found_read : (body : Raw) (told : SysFault) (q : Read CdrWhy (List ℕ × (ℕ × ℕ))) → fields.read (body_reader body) ≡ q → fault_read q ≡ Ok told → SpellsFault body told
-found_read body told (Ok x) h e =
-    let t = fields_codec.found (body_reader body) x h in
-    let tells = tells_if x.0 (completed_of x.0.1.1) told refl e in
+found_read : (body : Raw) (fault : SysFault) (q : Read CdrWhy Told) → told.read (body_reader body) ≡ q → fault_read q ≡ Ok fault → SpellsFault body fault
+found_read body fault (Ok x) h e =
+    let t = told_codec.found (body_reader body) x h in
+    let tells = tells_if x.0 (completed_of x.0.status) fault refl e in
     record {
       bytes = t.bytes;
       more = x.1.rest;
       is = t.moved.is;
-      spelled = subst (λ (y : List ℕ × (ℕ × ℕ)). fields.Spelled body.order body.align y t.bytes) (sym tells.is) t.spelled;
+      spelled = subst (λ (y : Told). told.Spelled body.order body.align y t.bytes) (sym tells.is) t.spelled;
       named = tells.named;
     }
-found_read body told (Err wrong) h e = absurd (err_ok told (wrongs.Bad (record { why = wrong.why; place = wrong.place })) e)
+found_read body fault (Err wrong) h e = absurd (err_ok fault (wrongs.Bad (record { why = wrong.why; place = wrong.place })) e)
 
-pub spells_found : (body : Raw) (told : SysFault) → fault_in body ≡ Ok told → SpellsFault body told
-spells_found body told e = found_read body told (fields.read (body_reader body)) refl e
+pub spells_found : (body : Raw) (fault : SysFault) → fault_in body ≡ Ok fault → SpellsFault body fault
+spells_found body fault e = found_read body fault (told.read (body_reader body)) refl e
 
 abbrev read_ok : SysFault → Result SysFault SysReadFault
-read_ok told = Ok told
+read_ok fault = Ok fault
 
-fault_again : (told : SysFault) → kind_of (id_of told.kind) ≡ told.kind → fault_of (fields_of told) ≡ Ok told
-fault_again told named =
-    ap (fault_if (fields_of told)) (completed_back told.completed)
-    ∙ ap (λ (k : SysKind). read_ok (record { kind = k; minor = told.minor; completed = told.completed })) named
+fault_again : (fault : SysFault) → kind_of (id_of fault.kind) ≡ fault.kind → fault_of (told_of fault) ≡ Ok fault
+fault_again fault named =
+    ap (fault_if (told_of fault)) (completed_back fault.completed)
+    ∙ ap (λ (k : SysKind). read_ok (record { kind = k; minor = fault.minor; completed = fault.completed })) named
 
-pub found_spelled : (body : Raw) (told : SysFault) → SpellsFault body told → fault_in body ≡ Ok told
-found_spelled body told s =
-    ap (λ (l : List ℕ). fault_read (fields.read (reader_at body.order body.align l))) s.is
-    ∙ ap fault_read (fields_codec.again body.order body.align (fields_of told) s.bytes s.more s.spelled)
-    ∙ fault_again told s.named
+pub found_spelled : (body : Raw) (fault : SysFault) → SpellsFault body fault → fault_in body ≡ Ok fault
+found_spelled body fault s =
+    ap (λ (l : List ℕ). fault_read (told.read (reader_at body.order body.align l))) s.is
+    ∙ ap fault_read (told_codec.again body.order body.align (told_of fault) s.bytes s.more s.spelled)
+    ∙ fault_again fault s.named
 
 -- ---- a call's answers
 
-pub is_found : (body : Raw) (result : Result SysFault SysReadFault) → Answers result (fault_in body) → IfOk result (λ told. SpellsFault body told)
-is_found body (Ok told) h = spells_found body told h
-is_found body (Err e) h = tt
+abbrev TellsFault : Raw → Result SysFault SysReadFault → Type 0
+TellsFault body result = Tells (λ fault. fault) wrong_body result (fault_in body)
 
-pub is_refused : (body : Raw) (result : Result SysFault SysReadFault) → Answers result (fault_in body) → Refuses result ((told : SysFault) → SpellsFault body told → ⊥)
-is_refused body (Ok told) h = tt
-is_refused body (Err wrongs.NoMemory) h = tt
-is_refused body (Err (wrongs.Bad wrong)) h = λ told s. ok_err told (wrongs.Bad wrong) (sym (found_spelled body told s) ∙ h)
-is_refused body (Err (wrongs.BadCompleted n)) h = λ told s. ok_err told (wrongs.BadCompleted n) (sym (found_spelled body told s) ∙ h)
+pub is_found : (body : Raw) (result : Result SysFault SysReadFault) → TellsFault body result → IfOk result (SpellsFault body)
+is_found body result h = told_found (λ fault. fault) wrong_body result (fault_in body) (SpellsFault body) (spells_found body) h
+
+pub is_refused : (body : Raw) (result : Result SysFault SysReadFault) → TellsFault body result → Refuses wrong_body result ((fault : SysFault) → SpellsFault body fault → ⊥)
+is_refused body result h =
+    told_refused (λ fault. fault) wrong_body result (fault_in body) ((fault : SysFault) → SpellsFault body fault → ⊥)
+    (λ wrong e fault s. ok_err fault wrong (sym (found_spelled body fault s) ∙ e)) h
 
 -- ---- what is written is read again
 
@@ -138,8 +134,8 @@ status_small Yes = lit< tt
 status_small No = lit< tt
 status_small Maybe = lit< tt
 
-pub fault_valid : (told : SysFault) → zero_place (id_of told.kind) ≡ None → length (id_of told.kind) + 1 < 2 ^ 32 → told.minor < 2 ^ 32 → fields.Valid (fields_of told)
-fault_valid told none short minor = (text_valid (id_of told.kind) none short, (minor, status_small told.completed))
+pub fault_valid : (fault : SysFault) → zero_place (id_of fault.kind) ≡ None → length (id_of fault.kind) + 1 < 2 ^ 32 → fault.minor < 2 ^ 32 → told.Valid (told_of fault)
+fault_valid fault none short minor = (text_valid (id_of fault.kind) none short, (minor, (status_small fault.completed, refl)))
 
 named_kind : (kind : SysKind) → OnUnknown kind IsOtherId → kind_of (id_of kind) ≡ kind
 named_kind ObjectNotExist h = refl
@@ -157,20 +153,20 @@ named_kind ObjAdapter h = refl
 named_kind NoMemory h = refl
 named_kind (Unknown id) h = ap (λ (o : Option SysKind). unwrap_or o (Unknown id)) h.other
 
-read_written : (order : Order) (told : SysFault) → OnUnknown told.kind IsOtherId → fields.Valid (fields_of told)
-    → fault_in (record { order = order; align = 0; bytes = fields.written order 0 (fields_of told) }) ≡ Ok told
-read_written order told h valid =
-    found_spelled (record { order = order; align = 0; bytes = fields.written order 0 (fields_of told) }) told (record {
-      bytes = fields.written order 0 (fields_of told);
+read_written : (order : Order) (fault : SysFault) → OnUnknown fault.kind IsOtherId → told.Valid (told_of fault)
+    → fault_in (record { order = order; align = 0; bytes = told.written order 0 (told_of fault) }) ≡ Ok fault
+read_written order fault h valid =
+    found_spelled (record { order = order; align = 0; bytes = told.written order 0 (told_of fault) }) fault (record {
+      bytes = told.written order 0 (told_of fault);
       more = [];
-      is = sym (append-nil (fields.written order 0 (fields_of told)));
-      spelled = fields_codec.spells order 0 (fields_of told) valid;
-      named = named_kind told.kind h;
+      is = sym (append-nil (told.written order 0 (told_of fault)));
+      spelled = told_codec.spells order 0 (told_of fault) valid;
+      named = named_kind fault.kind h;
     })
 
-pub is_read_again : (order : Order) (told : SysFault) (result : Result (List ℕ) OutOfMemory) → OnUnknown told.kind IsOtherId
-    → IfOk result (λ bytes. bytes ≡ fields.written order 0 (fields_of told)) → IfOk result (λ bytes. fields.Valid (fields_of told))
-    → IfOk result (λ bytes. fault_in (record { order = order; align = 0; bytes = bytes }) ≡ Ok told)
-is_read_again order told (Ok bytes) h is valid =
-    ap (λ (l : List ℕ). fault_in (record { order = order; align = 0; bytes = l })) is ∙ read_written order told h valid
-is_read_again order told (Err e) h is valid = tt
+pub is_read_again : (order : Order) (fault : SysFault) (result : Result (List ℕ) OutOfMemory) → OnUnknown fault.kind IsOtherId
+    → IfOk result (λ bytes. bytes ≡ told.written order 0 (told_of fault)) → IfOk result (λ bytes. told.Valid (told_of fault))
+    → IfOk result (λ bytes. fault_in (record { order = order; align = 0; bytes = bytes }) ≡ Ok fault)
+is_read_again order fault (Ok bytes) h is valid =
+    ap (λ (l : List ℕ). fault_in (record { order = order; align = 0; bytes = l })) is ∙ read_written order fault h valid
+is_read_again order fault (Err e) h is valid = tt

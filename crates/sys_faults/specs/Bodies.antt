@@ -7,7 +7,8 @@ use Rattle.ft_base.specs.Text.{zero_place}
 use Rattle.cdr_codec.specs.declared.faults.CdrWhy.{CdrWhy}
 use Rattle.cdr_codec.specs.declared.bodies.Raw.{Raw}
 use Rattle.cdr_codec.specs.Reading.{Read}
-use Rattle.cdr_codec.specs.Formats.{Format, number, followed}
+use Rattle.cdr_codec.specs.Formats.{Format, number}
+use Rattle.cdr_codec.specs.Structs.{Fields, field, whole, struct}
 use Rattle.cdr_codec.specs.Values.{text}
 use Rattle.cdr_codec.specs.Arguments.{body_reader}
 use Rattle.sys_faults.specs.declared.faults.Completed.{Completed}
@@ -60,50 +61,57 @@ completed_of (suc zero) = Some No
 completed_of (suc (suc zero)) = Some Maybe
 completed_of (suc (suc (suc n))) = None
 
--- id, minor code and completion status, as they stand in the body
-abbrev pub fields : Format CdrWhy (List ℕ × (ℕ × ℕ))
-fields = followed text (λ id. followed (number 4) (λ minor. number 4))
+-- what stands in the body
+pub record Told : Type 0 where
+  pub id : List ℕ
+  pub minor : ℕ
+  pub status : ℕ
 
-abbrev pub fields_of : SysFault → List ℕ × (ℕ × ℕ)
-fields_of fault = (id_of fault.kind, (fault.minor, status_of fault.completed))
+abbrev pub told_with : List ℕ → ℕ → ℕ → Told
+told_with id minor status = record { id = id; minor = minor; status = status }
 
-abbrev pub fault_if : List ℕ × (ℕ × ℕ) → Option Completed → Result SysFault SysReadFault
-fault_if x None = Err (wrongs.BadCompleted x.1.1)
-fault_if x (Some completed) = Ok (record { kind = kind_of x.0; minor = x.1.0; completed = completed })
+abbrev pub told_fields : Fields CdrWhy Told
+told_fields =
+    field text (λ told. told.id) (λ id.
+    field (number 4) (λ told. told.minor) (λ minor.
+    field (number 4) (λ told. told.status) (λ status.
+    whole (told_with id minor status))))
 
--- the exception that these fields tell
-abbrev pub fault_of : List ℕ × (ℕ × ℕ) → Result SysFault SysReadFault
-fault_of x = fault_if x (completed_of x.1.1)
+abbrev pub told : Format CdrWhy Told
+told = struct told_fields
 
-abbrev pub fault_read : Read CdrWhy (List ℕ × (ℕ × ℕ)) → Result SysFault SysReadFault
+abbrev pub told_of : SysFault → Told
+told_of fault = told_with (id_of fault.kind) fault.minor (status_of fault.completed)
+
+abbrev pub fault_if : Told → Option Completed → Result SysFault SysReadFault
+fault_if x None = Err (wrongs.BadCompleted x.status)
+fault_if x (Some completed) = Ok (record { kind = kind_of x.id; minor = x.minor; completed = completed })
+
+-- the exception that this tells
+abbrev pub fault_of : Told → Result SysFault SysReadFault
+fault_of x = fault_if x (completed_of x.status)
+
+abbrev pub fault_read : Read CdrWhy Told → Result SysFault SysReadFault
 fault_read (Ok x) = fault_of x.0
 fault_read (Err wrong) = Err (wrongs.Bad (record { why = wrong.why; place = wrong.place }))
 
 -- the exception in a body; more may follow its last field
 abbrev pub fault_in : Raw → Result SysFault SysReadFault
-fault_in body = fault_read (fields.read (body_reader body))
+fault_in body = fault_read (told.read (body_reader body))
 
 -- the body spells the exception, which is named if its id is that of a named one
 pub record SpellsFault (body : Raw) (fault : SysFault) : Type 0 where
   pub bytes : List ℕ
   pub more : List ℕ
   pub is : body.bytes ≡ bytes ++ more
-  pub spelled : fields.Spelled body.order body.align (fields_of fault) bytes
+  pub spelled : told.Spelled body.order body.align (told_of fault) bytes
   pub named : kind_of (id_of fault.kind) ≡ fault.kind
 
--- a call answered this, or that there is no memory
-abbrev pub Answers : Result SysFault SysReadFault → Result SysFault SysReadFault → Type 0
-Answers (Ok x) value = value ≡ Ok x
-Answers (Err wrongs.NoMemory) value = Unit {0}
-Answers (Err (wrongs.Bad wrong)) value = value ≡ Err (wrongs.Bad wrong)
-Answers (Err (wrongs.BadCompleted status)) value = value ≡ Err (wrongs.BadCompleted status)
-
--- a fact of each refusal that isn't want of memory
-abbrev pub Refuses : Result SysFault SysReadFault → Type 0 → Type 0
-Refuses (Ok x) P = Unit {0}
-Refuses (Err wrongs.NoMemory) P = Unit {0}
-Refuses (Err (wrongs.Bad wrong)) P = P
-Refuses (Err (wrongs.BadCompleted status)) P = P
+-- what is wrong with a body; nothing for want of memory
+abbrev pub wrong_body : SysReadFault → Option SysReadFault
+wrong_body wrongs.NoMemory = None
+wrong_body (wrongs.Bad wrong) = Some (wrongs.Bad wrong)
+wrong_body (wrongs.BadCompleted status) = Some (wrongs.BadCompleted status)
 
 -- an id that can be written, and that no named exception has
 pub record IsOtherId (id : List ℕ) : Type 0 where

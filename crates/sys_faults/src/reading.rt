@@ -1,8 +1,8 @@
 //! The body of a system exception, read.
-ghost use Rattle.std.specs.Prelude.{◌≡◌, ◌+◌, ◌<◌, ◌^◌, length, Some, IfOk};
-ghost use Rattle.cdr_codec.specs.Calls.{fault, Gives};
+ghost use Rattle.std.specs.Prelude.{◌≡◌, ◌+◌, ◌<◌, ◌^◌, length, IfOk};
+ghost use Rattle.cdr_codec.specs.Calls.{value_fault, Gives, Tells, Refuses};
 ghost use Rattle.sys_faults.specs.declared.faults.SysFault.{SysFault as Exception};
-ghost use Rattle.sys_faults.specs.Bodies.{kind_of, completed_of, fields, fault_of, fault_in, SpellsFault, Answers, Refuses};
+ghost use Rattle.sys_faults.specs.Bodies.{kind_of, completed_of, told, told_with, fault_of, fault_in, wrong_body, SpellsFault};
 
 use crate::faults::{Completed, SysFault, SysKind};
 use crate::ids::find_kind;
@@ -49,7 +49,7 @@ fn kind_of(alloc: Global, id: &[u8]) -> Result<SysKind, NoMemory>
 }
 
 fn fields_at<'a>(reader: &mut CdrReader<'a>) -> Result<(&'a [u8], u32, u32), CdrFault>
-    ensures { Gives (λ x. (x.0.now, (x.1, x.2))) (λ wrong. Some (fault wrong)) result (fields.read reader.old) reader.new }
+    ensures { Gives (λ x. told_with x.0.now x.1 x.2) value_fault result (told.read reader.old) reader.new }
 {
     let id = reader.read_string()?;
     let minor = reader.read_u32()?;
@@ -58,7 +58,7 @@ fn fields_at<'a>(reader: &mut CdrReader<'a>) -> Result<(&'a [u8], u32, u32), Cdr
 }
 
 fn fault_of(alloc: Global, id: &[u8], minor: u32, status: u32) -> Result<SysFault, SysReadFault>
-    ensures { Answers result (fault_of (id.now, (minor, status))) }
+    ensures { Tells (λ fault. fault) wrong_body result (fault_of (told_with id.now minor status)) }
 {
     match completed_of(status) {
         None => Err(SysReadFault::BadCompleted(status)),
@@ -75,7 +75,7 @@ fn fault_of(alloc: Global, id: &[u8], minor: u32, status: u32) -> Result<SysFaul
 
 fn read_exactly(alloc: Global, body: &Raw) -> Result<SysFault, SysReadFault>
     requires { body.now.align + length body.now.bytes + 8 < 2 ^ 32 }
-    ensures { Answers result (fault_in body.now) }
+    ensures { Tells (λ fault. fault) wrong_body result (fault_in body.now) }
 {
     let mut reader = CdrReader::new(body.order, body.align as u32, body.bytes.bytes());
     match fields_at(&mut reader) {
@@ -87,9 +87,9 @@ fn read_exactly(alloc: Global, body: &Raw) -> Result<SysFault, SysReadFault>
 /// The system exception in the body of a reply. What follows its last field is ignored.
 pub fn read_fault(alloc: Global, body: &Raw) -> Result<SysFault, SysReadFault>
     requires { body.now.align + length body.now.bytes + 8 < 2 ^ 32 }
-    ensures found { IfOk result (λ told. SpellsFault body.now told) }
-    ensures refused { Refuses result ((told : Exception) → SpellsFault body.now told → ⊥) }
-    ensures value { Answers result (fault_in body.now) }
+    ensures found { IfOk result (SpellsFault body.now) }
+    ensures refused { Refuses wrong_body result ((fault : Exception) → SpellsFault body.now fault → ⊥) }
+    ensures value { Tells (λ fault. fault) wrong_body result (fault_in body.now) }
 {
     read_exactly(alloc, body)
 }

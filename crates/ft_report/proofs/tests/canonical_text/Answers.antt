@@ -6,5 +6,5 @@ use Rattle.ft_report.proofs.tests.canonical_text.Goals as goal
 pub returns : goal.returns
 returns c =
     let spelled : IsCanonical (Text ∷ []) (0 ∷ 0 ∷ 0 ∷ 3 ∷ 111 ∷ 107 ∷ 0 ∷ []) =
-    (0 ∷ 0 ∷ 0 ∷ 3 ∷ 111 ∷ 107 ∷ 0 ∷ [], [], refl, (111 ∷ 107 ∷ [], refl, lit< tt, refl), refl) in
+    (0 ∷ 0 ∷ 0 ∷ 3 ∷ 111 ∷ 107 ∷ 0 ∷ [], [], refl, (111 ∷ 107 ∷ [], (refl, lit< tt), refl), refl) in
     subst (IsCanonical (Text ∷ [])) (sym c.in_ok-bytes.ensures) spelled

@@ -1,7 +1,8 @@
-use Rattle.std.proofs.Common.{◌≡◌, ◌+◌, map}
+use Rattle.std.proofs.Common.{◌≡◌, map}
 use Rattle.std.specs.List.{range_with_len}
+use Rattle.iogr_reference.specs.Choices.{port_of}
 use Rattle.ft_world.proofs.links.ports.Given as goal
 
 -- the ports so far
-abbrev pub invariant-loop-host : goal.invariant-loop-host
-invariant-loop-host l = l.all.items ≡ map (λ host. 2000 + host) (range_with_len 0 l.host)
+abbrev pub invariant-loop-number : goal.invariant-loop-number
+invariant-loop-number l = l.all.items ≡ map port_of (range_with_len 0 l.number)

@@ -2,9 +2,10 @@ use Rattle.std.proofs.Common.{◌≡◌, ◌≤◌, Bool, cond, List, ℕ, Resul
 use Rattle.cdr_codec.specs.declared.orders.Order.{Order}
 use Rattle.cdr_codec.specs.declared.orders.Order.TheVariants.{Big}
 use Rattle.cdr_codec.specs.Reading.{Reader, reader_at, Fault}
+use Rattle.cdr_codec.specs.Calls.{Tells}
 use Rattle.giop_messages.specs.declared.faults.Why.{Why}
 use Rattle.giop_messages.specs.declared.messages.Message.{Message}
-use Rattle.giop_messages.specs.Faults.{Tells}
+use Rattle.giop_messages.specs.Faults.{read_fault}
 use Rattle.giop_messages.specs.Messages.{cut, headed, message_in}
 use Rattle.giop_messages.proofs.reading.read_exactly.Goals as goal
 
@@ -17,6 +18,6 @@ whole bytes r long begins = ap (headed bytes) begins ∙ sym (ap (judged_if byte
 
 pub returns : goal.returns
 returns c = record {
-  read = subst (λ (what : Result (Message × Order) (Fault Why)). Tells (λ m. m) c.read_headed.result what)
+  read = subst (λ (what : Result (Message × Order) (Fault Why)). Tells (λ m. m) read_fault c.read_headed.result what)
       (whole c.args.bytes.now c.new-reader.result c.if-bytes-lt-HEAD_LENGTH.false c.new-reader.ensures) c.read_headed.ensures;
 }

@@ -9,7 +9,7 @@ use Rattle.group_core.proofs.groups.newest_held.Goals.{else-is_held_by, then-is_
 -- the entry at hand is the newest so far, or what was before
 pub loop-place-preserved : goal.loop-place-preserved
 loop-place-preserved c =
-    let more = held_more c.args.kept.now c.args.key.now c.args.now.0 c.loop-place.place c.index-kept-place.result (omega arith) c.index-kept-place.is in
+    let more = held_more c.requests_join.ensures.place c.args.kept.now c.args.key.now c.args.now.0 c.loop-place.place c.index-kept-place.result (omega arith) c.index-kept-place.is in
     let before = held (entries_of (take c.loop-place.place c.args.kept.now)) c.args.key.now c.args.now.0 in
     let inside : Option ℕ → Type 0 = λ o. IfSome o (λ i. i < length c.args.kept.now) in
     elim c.if-is_held_by.branch [

@@ -3,11 +3,11 @@ use Rattle.cdr_codec.proofs.Steps.{failed}
 use Rattle.group_core.specs.Group.{taken_args}
 use Rattle.group_core.specs.Kept.{Comes}
 use Rattle.group_core.specs.declared.groups.Served.{Served}
-use Rattle.group_core.proofs.BodyLemmas.{form_sized, read_bad, read_ok, refused_is}
+use Rattle.group_core.proofs.BodyLemmas.{read_bad, read_ok, refused_is}
 use Rattle.group_core.proofs.table.taken_args.Goals as goal
 
 pub short_args-requires : goal.short_args-requires
-short_args-requires c = omega (arith, form_sized c.args.body.now c.args.signature.now c.in-Ok.args c.in-Ok.ensures.found, c.requires)
+short_args-requires c = omega (arith, c.in-Ok.ensures.sized, c.requires)
 
 pub returns-in-Ok-clause-args : goal.returns-in-Ok-clause-args
 returns-in-Ok-clause-args c =

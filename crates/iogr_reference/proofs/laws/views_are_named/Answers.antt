@@ -1,5 +1,5 @@
-use Rattle.iogr_reference.proofs.ViewLaws.{views_are_named}
+use Rattle.iogr_reference.proofs.ViewLaws.{views_are_named, views_are_read}
 use Rattle.iogr_reference.proofs.laws.views_are_named.Goals as goal
 
 pub returns : goal.returns
-returns c = views_are_named
+returns c = record { named = views_are_named; read = views_are_read }

@@ -2,7 +2,8 @@ use Rattle.std.proofs.Common.{◌∙◌, ◌++◌, ◌∷◌, [], List, ap, sym,
 use Rattle.std.proofs.lemmas.List.{map_more}
 use Rattle.std.proofs.lemmas.List.Elements.{All-push}
 use Rattle.iogr_reference.specs.declared.references.Profile.{Profile}
-use Rattle.iogr_reference.specs.Formats.{IsShort}
+use Rattle.cdr_codec.specs.Tagged.{IsShort}
+use Rattle.iogr_reference.specs.Formats.{profile_parts}
 use Rattle.iogr_reference.specs.Views.{profile_of_host}
 use Rattle.iogr_reference.proofs.views.profiles_of.Goals as goal
 
@@ -17,5 +18,5 @@ loop-host-preserved c =
           ∙ ap (λ (p : Profile). map f (take i hosts) ++ p ∷ []) c.in_ok-profile.ensures.profile
           ∙ sym (map_more f hosts i 0 c.loop-host-test.true);
       short = rw c.in_ok-push.ensures.items
-          (All-push (λ (p : Profile). IsShort p.content) c.loop-host.profiles.items c.in_ok-profile.profile c.loop-host.invariant.short c.in_ok-profile.ensures.short);
+          (All-push (IsShort profile_parts) c.loop-host.profiles.items c.in_ok-profile.profile c.loop-host.invariant.short c.in_ok-profile.ensures.short);
     }

@@ -1,0 +1,29 @@
+-- Views: a group's members at one version of its reference. (Chapter 23, "Object Group References".)
+use Rattle.std.specs.Prelude.{◌≡◌, ℕ, ◌<◌, ◌≤◌, true, List, [], length, Option, Some, None}
+use Rattle.ft_base.specs.Members.{is_member, AreDifferent}
+use Rattle.ft_base.specs.declared.limits.TheConstants.{VIEW_LIMIT}
+use Rattle.ft_base.specs.declared.views.TheConstants.{MEMBER_LIMIT}
+use Rattle.ft_base.specs.declared.numbers.HostNo.{HostNo}
+use Rattle.ft_base.specs.declared.views.Style.{Style}
+use Rattle.ft_base.specs.declared.views.Style.TheVariants.{Cold, Warm, Active}
+use Rattle.ft_base.specs.declared.views.View.{View}
+
+-- a passive group has a primary exactly where it has members, and it is one of them
+abbrev pub IsPassivePrimary : List ℕ → Option HostNo → Type 0
+IsPassivePrimary members None = members ≡ []
+IsPassivePrimary members (Some host) = is_member host.0 members ≡ true
+
+-- an active group has none
+abbrev pub IsPrimary : Style → List ℕ → Option HostNo → Type 0
+IsPrimary Cold members primary = IsPassivePrimary members primary
+IsPrimary Warm members primary = IsPassivePrimary members primary
+IsPrimary Active members primary = primary ≡ None
+
+-- a view of a group of this style: its version, at most 16 different members in order of joining, and its
+-- primary
+pub record IsView (style : Style) (view : View) : Type 0 where
+  pub numbered : 0 < view.version.0
+  pub last : view.version.0 ≤ VIEW_LIMIT
+  pub few : length view.members ≤ MEMBER_LIMIT
+  pub different : AreDifferent view.members
+  pub primary : IsPrimary style view.members view.primary

@@ -1,0 +1,91 @@
+-- Messages that are written back to back stream as those messages.
+use Rattle.std.proofs.Common.{◌≡◌, ℕ, ◌+◌, ◌<◌, ◌≤◌, ◌++◌, ◌∷◌, [], true, false, List, length, take, drop, Result, Ok, refl, sym, ap, ◌∙◌, arith, length-append}
+use Rattle.std.specs.Prelude.{nat_lt, flat_map}
+use Rattle.std.specs.List.{AllByRecursion}
+use Rattle.std.proofs.Math.ListN.{drop_of_length-le}
+use Rattle.std.proofs.lemmas.Bool.{cond-false, le-ltb}
+use Rattle.std.proofs.lemmas.List.{length-drop, append-nil, take_all, take_at}
+use Rattle.cdr_codec.specs.declared.orders.Order.{Order}
+use Rattle.cdr_codec.specs.declared.orders.Order.TheVariants.{Big, Little}
+use Rattle.cdr_codec.specs.Reading.{Fault}
+use Rattle.giop_messages.specs.declared.faults.Why.{Why}
+use Rattle.giop_messages.specs.declared.heads.Head.{Head}
+use Rattle.giop_messages.specs.declared.heads.Kind.{Kind}
+use Rattle.giop_messages.specs.Heads.{flags_fit, head_in, header}
+use Rattle.giop_messages.specs.declared.heads.TheConstants.{MESSAGE_LIMIT}
+use Rattle.giop_messages.specs.Messages.{kind_in}
+use Rattle.giop_messages.specs.Writing.{written_payload}
+use Rattle.giop_messages.specs.Laws.{MessagesAreReadBack}
+use Rattle.giop_stream.specs.declared.fronts.Front.TheVariants.{Whole}
+use Rattle.giop_stream.specs.Faults.{told}
+use Rattle.giop_stream.specs.Fronts.{framed, framed_by, front, fronted, head_at, total}
+use Rattle.giop_stream.specs.Parts.{Begun, Gives, Received, Turn, fragment, gave, is_fragment, message_of, turn}
+use Rattle.giop_stream.specs.Streams.{Rest, behind, stream, stream_on, turned}
+use Rattle.giop_stream.specs.Written.{IsWritable, written}
+use Rattle.giop_stream.proofs.StreamLaws.{front_long, no_part, whole_part, whole_stays}
+use Rattle.giop_stream.proofs.SpelledLaws.{Laws, sign_fits, sign_small, sized_head, twelve}
+
+-- ---- a header that announces no fragments, and what stands behind it
+
+pub framed_is : (order : Order) (kind : Kind) (size : ℕ) → 12 + size ≤ MESSAGE_LIMIT → framed (sized_head order kind size) ≡ Ok (sized_head order kind size)
+framed_is Big kind size h = cond-false (nat_lt MESSAGE_LIMIT (12 + size)) _ _ (le-ltb MESSAGE_LIMIT (12 + size) h)
+framed_is Little kind size h = cond-false (nat_lt MESSAGE_LIMIT (12 + size)) _ _ (le-ltb MESSAGE_LIMIT (12 + size) h)
+
+head_at_is : (bytes : List ℕ) (h : Head) → head_in bytes ≡ Ok h → framed h ≡ Ok h → head_at bytes ≡ Ok h
+unfolding head_at
+head_at_is bytes h read fits = ap (λ (r : Result Head (Fault Why)). framed_by (told r)) read ∙ fits
+
+-- this header is judged at the front of the bytes that begin with it
+pub front_of_written : Laws → (h : Head) (payload : List ℕ) → length (header.written Big 0 h) ≡ 12 → h.flags < 256 → h.size ≡ length payload
+    → total h ≤ MESSAGE_LIMIT → framed h ≡ Ok h → front (header.written Big 0 h ++ payload) ≡ Whole h
+front_of_written laws h payload long flags size small fits =
+    let head = header.written Big 0 h in
+    let whole : length (head ++ payload) ≡ total h = omega (arith, length-append head payload) in
+    let alone : head_in head ≡ Ok h = ap head_in (sym (append-nil head)) ∙ laws.headers h [] flags (omega arith) in
+    let at : head_at (take 12 (head ++ payload)) ≡ Ok h = ap head_at (take_at head payload 12 long) ∙ head_at_is head h alone fits in
+    front_long (head ++ payload) (omega arith) ∙ ap (fronted (head ++ payload)) at ∙ whole_stays (head ++ payload) h (omega arith)
+
+-- ---- one message
+
+whole_turn : (os : List Begun) (order : Order) (kind : Kind) (size : ℕ) (part : List ℕ) (m : Received) → is_fragment kind ≡ false
+    → message_of (sized_head order kind size) (drop 12 part) ≡ Ok m → turn os (sized_head order kind size) part ≡ Gives m os
+unfolding turn
+whole_turn os Big kind size part m own read =
+    cond-false (is_fragment kind) (fragment os (sized_head Big kind size) part) (gave os (message_of (sized_head Big kind size) (drop 12 part))) own ∙ ap (gave os) read
+whole_turn os Little kind size part m own read =
+    cond-false (is_fragment kind) (fragment os (sized_head Little kind size) part) (gave os (message_of (sized_head Little kind size) (drop 12 part))) own ∙ ap (gave os) read
+
+pub message_of_written : Laws → MessagesAreReadBack → (m : Received) (h : Head) → IsWritable m → flags_fit h ≡ true → length (written m) ≡ 12 + h.size
+    → head_in (written m) ≡ Ok h → message_of h (drop 12 (written m)) ≡ Ok m
+unfolding message_of
+message_of_written laws back m h w fits long read =
+    let behind : h.size ≡ length (drop 12 (written m)) = omega (arith, long, length-drop 12 (written m)) in
+    ap (λ (r : Result Received (Fault Why)). told r)
+    (sym (laws.fields (written m) (drop 12 (written m)) h read fits refl behind (omega (arith, long))) ∙ back m.0 m.1 w.numbered w.writable)
+
+-- one written message before others, where nothing or anything is begun
+pub written_first : Laws → MessagesAreReadBack → (os : List Begun) (m : Received) (more : List ℕ) → IsWritable m
+    → stream_on os (written m ++ more) ≡ behind (m ∷ []) (stream_on os more)
+written_first laws back os m more w =
+    let payload = written_payload m.1 m.0 in
+    let h = sized_head m.1 (kind_in m.0) (length payload) in
+    let long : length (header.written Big 0 h) ≡ 12 = twelve m.1 (kind_in m.0) (length payload) in
+    let whole : length (written m) ≡ total h = omega (arith, length-append (header.written Big 0 h) payload) in
+    let small : total h ≤ MESSAGE_LIMIT = omega (arith, w.writable.sized) in
+    let at : front (written m) ≡ Whole h =
+    front_of_written laws h payload long (sign_small m.1) refl small (framed_is m.1 (kind_in m.0) (length payload) small) in
+    let read : head_in (written m) ≡ Ok h = laws.headers h payload (sign_small m.1) (omega arith) in
+    let all : take (total h) (written m) ≡ written m = take_all (total h) (written m) (omega arith) in
+    let none : drop (total h) (written m) ≡ [] = drop_of_length-le (written m) (omega arith) in
+    let is : turn os h (written m) ≡ Gives m os =
+    whole_turn os m.1 (kind_in m.0) (length payload) (written m) m w.whole (message_of_written laws back m h w (sign_fits m.1 (kind_in m.0) (length payload)) whole read) in
+    whole_part os (written m) more h at
+    ∙ ap (λ (part : List ℕ). turned (turn os h part) (drop (total h) (written m) ++ more) stream_on) all
+    ∙ ap (λ (t : Turn). turned t (drop (total h) (written m) ++ more) stream_on) is
+    ∙ ap (λ (rest : List ℕ). behind (m ∷ []) (stream_on os (rest ++ more))) none
+
+pub written_streamed : Laws → MessagesAreReadBack → (ms : List Received) → AllByRecursion IsWritable ms
+    → stream (flat_map written ms) ≡ record { messages = ms; end = Rest 0 }
+written_streamed laws back [] all = no_part [] [] refl
+written_streamed laws back (m ∷ ms) all =
+    written_first laws back [] m (flat_map written ms) all.0 ∙ ap (behind (m ∷ [])) (written_streamed laws back ms all.1)

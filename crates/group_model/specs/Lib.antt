@@ -1,0 +1,16 @@
+pub mod Plain
+pub mod Turns
+pub mod Asking
+pub mod Views
+pub mod Decisions
+pub mod Admissions
+pub mod Serving
+pub mod Changes
+pub mod Transfers
+pub mod Events
+pub mod Agreeing
+pub mod Lean
+pub mod Openings
+pub mod Runs
+pub mod Counting
+pub mod Laws

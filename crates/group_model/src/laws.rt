@@ -1,0 +1,53 @@
+//! The laws of a plain group over every list of events that agree. The functions do nothing: their
+//! contracts are facts.
+ghost use Rattle.group_model.specs.Counting.{CallsAreCounted};
+ghost use Rattle.group_model.specs.Laws.{GroupsGrow, RepliesStay, StatesStay, DeposedAppendNothing, AgreementLasts, KnowledgeNeverFalls, GroupsStaySound, RefusalsChangeNothing};
+
+use ft_base::{canonical_forms_are_of_values, requests_join};
+
+/// A group stays sound: each request is accepted at most once before its expiration, ticks of acceptance
+/// never fall, no host is past what has run, the k-th view has version k, and a passive view's primary is
+/// a member.
+pub fn groups_stay_sound()
+    ensures { GroupsStaySound }
+{
+    requests_join();
+    canonical_forms_are_of_values();
+}
+
+/// The journal and the views only get more, at their end; time never falls, nor how much has run. So an
+/// accepted request stays what it is, and its reply and each state are the same ever after.
+pub fn groups_grow()
+    ensures grow { GroupsGrow }
+    ensures replies { RepliesStay }
+    ensures states { StatesStay }
+{}
+
+/// A host that knows an older view than the newest appends nothing and calls no servant.
+pub fn deposed_append_nothing()
+    ensures { DeposedAppendNothing }
+{}
+
+/// What one host sent, or comes from outside, goes on agreeing with the group whatever comes in between.
+pub fn agreement_lasts()
+    ensures { AgreementLasts }
+{}
+
+/// What a host knows of a group's views never falls while the host is up.
+pub fn knowledge_never_falls()
+    ensures { KnowledgeNeverFalls }
+{}
+
+/// The servant is called once for each accepted entry that is run, once for each entry that a host catches up
+/// with, and once for each order that is applied.
+pub fn calls_are_counted()
+    ensures { CallsAreCounted }
+{
+    requests_join();
+    canonical_forms_are_of_values();
+}
+
+/// A refusal changes nothing but what its host knows, and what catching up moved. So does a repeat.
+pub fn refusals_change_nothing()
+    ensures { RefusalsChangeNothing }
+{}

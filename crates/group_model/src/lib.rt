@@ -1,0 +1,15 @@
+//! The plain group: what an object group is, apart from all code. It is one journal for all its hosts
+//! and a few numbers for each, and `specs/` say what every event makes of it; states and replies are
+//! computed from the journal. The code here is the types of events and answers, and the laws.
+#![tactic(auto)]
+
+mod asking;
+mod changes;
+mod events;
+mod laws;
+mod refusals;
+
+pub use asking::Asked;
+pub use changes::{Change, ManageFault};
+pub use events::{Event, GroupAnswer, Inner, Out, OutList};
+pub use refusals::Refusal;

@@ -1,7 +1,0 @@
-use Rattle.std.proofs.Common.{sym}
-use Rattle.run_top.proofs.Cuts.{cut_some}
-use Rattle.run_top.proofs.feeding.split_line.Goals as goal
-
-pub returns-in-Some : goal.returns-in-Some
-returns-in-Some c =
-    cut_some c.args.bytes.now c.front.result.now c.behind.result.now c.in-Some.end (sym c.in-Some.ensures.place) c.front.ensures c.behind.ensures

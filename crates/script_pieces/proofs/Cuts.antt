@@ -1,0 +1,85 @@
+-- Bytes cut at an LF, and the lines of what is joined.
+use Rattle.std.proofs.Common.{◌≡◌, ℕ, zero, suc, ◌+◌, ◌<◌, ◌≤◌, Bool, true, false, cond, List, [], ◌∷◌, ◌++◌, length, get_or, take, drop, Some, None, refl, sym, ap, ◌∙◌, subst, arith, ltb, ⊎_elim}
+use Rattle.std.specs.List.{position, position_or_len}
+use Rattle.std.specs.Prelude.{◌==◌, not}
+use Rattle.std.proofs.lemmas.List.Quantifiers.{position-Some}
+use Rattle.std.proofs.lemmas.List.{get_or-take, length-take}
+use Rattle.std.proofs.lemmas.List.Sums.{prefix_len_passes}
+use Rattle.std.proofs.lemmas.Bool.{eqb-true, cases_lt, cond_below, false≢true}
+use Rattle.script_pieces.specs.Runs.{lines_of, text_of}
+use Rattle.script_pieces.specs.Feeds.{IsInLine}
+
+in_line_by : (xs : List ℕ) → ((k : ℕ) → k < length xs → (get_or xs k 0 == 10) ≡ false) → IsInLine xs
+in_line_by [] h = tt
+in_line_by (x ∷ xs) h = (h 0 (omega arith), in_line_by xs (λ k l. h (suc k) (omega arith)))
+
+-- bytes that are cut at a place
+cut_at : (xs : List ℕ) (i : ℕ) → i < length xs → xs ≡ take i xs ++ get_or xs i 0 ∷ drop (suc i) xs
+cut_at [] i h = absurd (omega arith)
+cut_at (x ∷ xs) zero h = refl
+cut_at (x ∷ xs) (suc i) h = ap (λ (ys : List ℕ). x ∷ ys) (cut_at xs i (omega arith))
+
+pub lines_open : (text more line : List ℕ) (lines : List (List ℕ)) → IsInLine text → lines_of more ≡ line ∷ lines
+    → lines_of (text ++ more) ≡ (text ++ line) ∷ lines
+lines_open [] more line lines h e = e
+lines_open (b ∷ text) more line lines h e = rw (h.0, lines_open text more line lines h.1 e)
+
+pub lines_end : (text more : List ℕ) → IsInLine text → lines_of (text ++ 10 ∷ more) ≡ (text ++ 10 ∷ []) ∷ lines_of more
+lines_end text more h = lines_open text (10 ∷ more) (10 ∷ []) (lines_of more) h refl
+
+pub lines_last : (b : ℕ) (text : List ℕ) → IsInLine (b ∷ text) → lines_of (b ∷ text) ≡ (b ∷ text) ∷ []
+lines_last b [] h = rw h.0
+lines_last b (c ∷ text) h = rw (h.0, lines_last c text h.1)
+
+pub text_front : (text line : List ℕ) → IsInLine text → text_of (text ++ line) ≡ text ++ text_of line
+text_front [] line h = refl
+text_front (b ∷ text) line h = rw (h.0, text_front text line h.1)
+
+pub text_whole : (text : List ℕ) → IsInLine text → text_of text ≡ text
+text_whole [] h = refl
+text_whole (b ∷ text) h = rw (h.0, text_whole text h.1)
+
+-- a front of a front
+pub take_capped : (n : ℕ) (xs ys : List ℕ) → take n (take n xs ++ ys) ≡ take n (xs ++ ys)
+take_capped zero xs ys = refl
+take_capped (suc n) [] ys = refl
+take_capped (suc n) (x ∷ xs) ys = ap (λ (zs : List ℕ). x ∷ zs) (take_capped n xs ys)
+
+not_true : (b : Bool) → not b ≡ true → b ≡ false
+not_true true e = absurd (false≢true e)
+not_true false e = refl
+
+some_none : (n : ℕ) → Some n ≡ None → ⊥
+some_none n e = cc
+
+-- a byte before the first LF
+not_here : (xs : List ℕ) (k : ℕ) → k < position_or_len (λ b. b == 10) xs → (get_or xs k 0 == 10) ≡ false
+not_here xs k h = not_true (get_or xs k 0 == 10) (prefix_len_passes (λ (b : ℕ). not (b == 10)) xs k 0 h)
+
+no_place : (n m : ℕ) → cond (ltb n m) (Some n) None ≡ None → m ≤ n
+no_place n m e = ⊎_elim (λ (l : n < m). absurd (some_none n (cond_below n m (Some n) None l ∙ e))) (λ (l : m ≤ n). l) (cases_lt n m)
+
+within : (xs : List ℕ) (i k : ℕ) → k < length (take i xs) → k < i
+within xs i k h = omega (arith, simp length-take at h)
+
+none_here : (xs : List ℕ) → length xs ≤ position_or_len (λ b. b == 10) xs → IsInLine xs
+none_here xs h = in_line_by xs (λ k l. not_here xs k (omega arith))
+
+pub cut_none : (xs : List ℕ) → position (λ b. b == 10) xs ≡ None → IsInLine xs
+cut_none xs e = none_here xs (no_place (position_or_len (λ b. b == 10) xs) (length xs) e)
+
+pub cut_some : (xs front rest : List ℕ) (i : ℕ) → position (λ b. b == 10) xs ≡ Some i → front ≡ take i xs → rest ≡ drop (i + 1) xs
+    → IsInLine front × (xs ≡ front ++ 10 ∷ rest)
+cut_some xs front rest i e f r =
+    let at = position-Some (λ (b : ℕ). b == 10) xs i 0 e in
+    let in_front_line : IsInLine (take i xs) =
+    in_line_by (take i xs) (λ k l. ap (λ (b : ℕ). b == 10) (get_or-take i xs k 0 (within xs i k l)) ∙ at.2 k (within xs i k l)) in
+    let next : suc i ≡ i + 1 = omega arith in
+    let here : get_or xs i 0 ≡ 10 = eqb-true (get_or xs i 0) 10 at.1 in (
+      subst IsInLine (sym f) in_front_line,
+      cut_at xs i at.0
+          ∙ ap (λ (b : ℕ). take i xs ++ b ∷ drop (suc i) xs) here
+          ∙ ap (λ (n : ℕ). take i xs ++ 10 ∷ drop n xs) next
+          ∙ ap (λ (ys : List ℕ). ys ++ 10 ∷ drop (i + 1) xs) (sym f)
+          ∙ ap (λ (ys : List ℕ). front ++ 10 ∷ ys) (sym r),
+    )

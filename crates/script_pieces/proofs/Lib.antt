@@ -1,0 +1,6 @@
+pub mod Cuts
+pub mod Counts
+pub mod Resumes
+pub mod Feedings
+pub mod Wholes
+pub mod Endings

@@ -1,0 +1,4 @@
+pub mod Runs
+pub mod Feeds
+pub mod Scripts
+pub mod Samples
