@@ -1,0 +1,6 @@
+pub mod WritingLaws
+pub mod PictureLaws
+pub mod Places
+pub mod StandingLaws
+pub mod JoiningLaws
+pub mod ContentLaws

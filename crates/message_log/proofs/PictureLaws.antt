@@ -1,0 +1,172 @@
+-- What is true of every log stays true.
+use Rattle.std.proofs.Common.{◌≡◌, ℕ, ◌+◌, ◌<◌, ◌≤◌, Bool, true, false, cond, not, leb, eqb, max, List, [], ◌∷◌, ◌++◌, length, Option, Some, None, refl, sym, ap, subst, ◌∙◌, append_assoc, arith}
+use Rattle.std.specs.Prelude.{drop, nat_le, nat_lt}
+use Rattle.std.specs.List.{AllByRecursion, filter}
+use Rattle.std.proofs.lemmas.Bool.Decides.{nat_tests}
+use Rattle.ft_base.specs.declared.limits.TheConstants.{VIEW_LIMIT, JOURNAL_LIMIT}
+use Rattle.ft_base.specs.declared.requests.Key.{Key}
+use Rattle.ft_base.specs.declared.requests.Outcome.{Outcome}
+use Rattle.ft_base.specs.declared.requests.Request.{Request}
+use Rattle.ft_base.specs.declared.views.View.{View}
+use Rattle.reply_table.specs.Entries.{found, joined, is_call, unexpired, is_unexpired, answered, with_reply}
+use Rattle.reply_table.specs.declared.entries.Found.{Found}
+use Rattle.reply_table.specs.declared.entries.Found.TheVariants as founds
+use Rattle.reply_table.specs.declared.entries.Retained.{Retained}
+use Rattle.message_log.specs.Picture.{Picture, Reserved, length_of, IsSound}
+use Rattle.message_log.specs.Calls.{reserved_of, IsReady}
+use Rattle.message_log.specs.Opening.{IsOpening}
+use Rattle.message_log.specs.declared.reservations.Reservation.{Reservation}
+use Rattle.message_log.specs.Admission.{admitted, by_room, by_found, by_key, unless_deposed}
+use Rattle.message_log.specs.declared.answers.Admit.{Admit}
+use Rattle.message_log.specs.declared.answers.Admit.TheVariants.{Deposed, Expired, Same, Other, Full, New}
+
+-- ---- records
+
+pub two_more : (xs : List (List ℕ)) (a b : List ℕ) → (xs ++ a ∷ []) ++ b ∷ [] ≡ xs ++ a ∷ b ∷ []
+two_more xs a b = append_assoc xs (a ∷ []) (b ∷ [])
+
+pub cut_before : (xs : List (List ℕ)) (a b : List ℕ) → drop (length xs) ((xs ++ a ∷ []) ++ b ∷ []) ≡ a ∷ b ∷ []
+cut_before [] a b = refl
+cut_before (x ∷ xs) a b = cut_before xs a b
+
+-- ---- a new request has room
+
+room_of : (count : ℕ) → by_room count ≡ New → count < JOURNAL_LIMIT
+room_of count h = go (nat_le JOURNAL_LIMIT count) refl h
+  where
+    go : (b : Bool) → nat_le JOURNAL_LIMIT count ≡ b → cond b Full New ≡ New → count < JOURNAL_LIMIT
+    go true t k = absurd cc
+    go false t k = grind (arith, nat_tests, t)
+
+found_room : (what : Found) (count : ℕ) → by_found what count ≡ New → count < JOURNAL_LIMIT
+found_room founds.Fresh count h = room_of count h
+found_room (founds.Same i) count h = absurd cc
+found_room (founds.Other i) count h = absurd cc
+
+key_room : (key : Option Key) (now : ℕ) (what : Found) (count : ℕ) → by_key key now what count ≡ New → count < JOURNAL_LIMIT
+key_room None now what count h = room_of count h
+key_room (Some key) now what count h = go (nat_le key.expiration.0 now) h
+  where
+    go : (b : Bool) → cond b (Expired (record { 0 = now })) (by_found what count) ≡ New → count < JOURNAL_LIMIT
+    go true k = absurd cc
+    go false k = found_room what count k
+
+pub new_has_room : (log : Picture) (version clock : ℕ) (request : Request) → admitted log version clock request ≡ New → length_of log < JOURNAL_LIMIT
+new_has_room log version clock request h = go (nat_lt version log.newest.version.0) h
+  where
+    go : (b : Bool) → cond b (Deposed (record { 0 = log.newest.version.0 }))
+        (by_key request.key (max clock log.time) (found log.table request request.key (max clock log.time)) (length_of log)) ≡ New → length_of log < JOURNAL_LIMIT
+    go true k = absurd cc
+    go false k = key_room request.key (max clock log.time) (found log.table request request.key (max clock log.time)) (length_of log) k
+
+-- ---- positions
+
+pub below : (n m : ℕ) (table : List Retained) → n ≤ m → AllByRecursion (λ (e : Retained). e.position < n) table → AllByRecursion (λ (e : Retained). e.position < m) table
+below n m [] le h = tt
+below n m (e ∷ table) le h = (omega (arith, le, h.0), below n m table le h.1)
+
+below_filter : (n : ℕ) (p : Retained → Bool) (table : List Retained) → AllByRecursion (λ (e : Retained). e.position < n) table
+    → AllByRecursion (λ (e : Retained). e.position < n) (filter p table)
+below_filter n p [] h = tt
+below_filter n p (e ∷ table) h = go (below_filter n p table h.1) (p e)
+  where
+    go : AllByRecursion (λ (d : Retained). d.position < n) (filter p table) → (b : Bool)
+        → AllByRecursion (λ (d : Retained). d.position < n) (cond b (e ∷ filter p table) (filter p table))
+    go rest true = (h.0, rest)
+    go rest false = rest
+
+below_push : (n : ℕ) (table : List Retained) (e : Retained) → AllByRecursion (λ (d : Retained). d.position < n) table → e.position < n
+    → AllByRecursion (λ (d : Retained). d.position < n) (table ++ e ∷ [])
+below_push n [] e h p = (p, tt)
+below_push n (d ∷ table) e h p = (h.0, below_push n table e h.1 p)
+
+pub below_joined : (n : ℕ) (table : List Retained) (e : Retained) (key : Option Key) → AllByRecursion (λ (d : Retained). d.position < n) table → e.position < n
+    → AllByRecursion (λ (d : Retained). d.position < n) (joined table e key)
+below_joined n table e None h p = h
+below_joined n table e (Some key) h p = below_push n (filter (λ d. not (is_call key d.request.key)) table) e (below_filter n (λ d. not (is_call key d.request.key)) table h) p
+
+position_of_answered : (position : ℕ) (outcome : Outcome) (e : Retained) → (answered position outcome e).position ≡ e.position
+position_of_answered position outcome e = go (eqb e.position position)
+  where
+    go : (b : Bool) → (cond b (record e { reply = Some outcome }) e).position ≡ e.position
+    go true = refl
+    go false = refl
+
+pub below_answered : (n position : ℕ) (outcome : Outcome) (table : List Retained) → AllByRecursion (λ (d : Retained). d.position < n) table
+    → AllByRecursion (λ (d : Retained). d.position < n) (with_reply table position outcome)
+below_answered n position outcome [] h = tt
+below_answered n position outcome (e ∷ table) h =
+    (subst (λ k. k < n) (sym (position_of_answered position outcome e)) h.0, below_answered n position outcome table h.1)
+
+-- ---- the calls
+
+pub sound_appended : (newest : View) (earlier mark entries : ℕ) (table : List Retained) (e : Retained) (key : Option Key)
+    → IsSound newest earlier mark entries table → mark + entries < JOURNAL_LIMIT → e.position ≡ mark + entries
+    → IsSound newest earlier mark (entries + 1) (joined table e key)
+sound_appended newest earlier mark entries table e key s room is = record {
+  first = s.first;
+  last = s.last;
+  fits = omega (arith, room);
+  positions = below_joined (mark + (entries + 1)) table e key (below (mark + entries) (mark + (entries + 1)) table (omega arith) s.positions) (omega (arith, is));
+}
+
+pub sound_viewed : (newest next : View) (earlier mark entries : ℕ) (table : List Retained) → IsSound newest earlier mark entries table
+    → next.version.0 ≡ newest.version.0 + 1 → newest.version.0 < VIEW_LIMIT → IsSound next (earlier + 1) mark entries table
+sound_viewed newest next earlier mark entries table s is room = record {
+  first = omega (arith, s.first, is);
+  last = omega (arith, room, is);
+  fits = s.fits;
+  positions = s.positions;
+}
+
+pub sound_checkpointed : (newest : View) (earlier mark entries time end none : ℕ) (table : List Retained) → IsSound newest earlier mark entries table
+    → end ≡ mark + entries → none ≡ 0 → IsSound newest earlier end none (unexpired time table)
+sound_checkpointed newest earlier mark entries time end none table s is zero = record {
+  first = s.first;
+  last = s.last;
+  fits = omega (arith, s.fits, is, zero);
+  positions = below_filter (end + none) (λ e. is_unexpired time e.request.key) table (below (mark + entries) (end + none) table (omega (arith, is, zero)) s.positions);
+}
+
+pub sound_answered : (newest : View) (earlier mark entries position : ℕ) (outcome : Outcome) (table : List Retained) → IsSound newest earlier mark entries table
+    → IsSound newest earlier mark entries (with_reply table position outcome)
+sound_answered newest earlier mark entries position outcome table s = record {
+  first = s.first;
+  last = s.last;
+  fits = s.fits;
+  positions = below_answered (mark + entries) position outcome table s.positions;
+}
+
+-- ---- what was reserved
+
+pub some_is : {X : Type 0} (x y : X) → Some x ≡ Some y → x ≡ y
+some_is x y h = cc
+
+pub ready_none : (position time : ℕ) (reserved : Option Reservation) (room : Type 0) → reserved ≡ None → IsReady position time reserved room
+ready_none position time reserved room is = subst (λ (o : Option Reservation). IsReady position time o room) (sym is) tt
+
+pub ready_some : (position time : ℕ) (reserved : Option Reservation) (taken : Reservation) (room : Type 0) → reserved ≡ Some taken
+    → IsReady position time reserved room → IsReady position time (Some taken) room
+ready_some position time reserved taken room is h = subst (λ (o : Option Reservation). IsReady position time o room) is h
+
+-- it is what the caller says
+pub taken_is : (reserved : Option Reservation) (taken : Reservation) (wanted : Reserved) → reserved ≡ Some taken → reserved_of reserved ≡ Some wanted
+    → record { version = taken.version; clock = taken.clock; request = taken.request } ≡ wanted
+taken_is reserved taken wanted is h =
+    some_is (record { version = taken.version; clock = taken.clock; request = taken.request }) wanted (sym (ap reserved_of is) ∙ h)
+
+-- the room for the next entry's reply doesn't depend on the replies
+pub ready_elsewhere : (position time : ℕ) (reserved : Option Reservation) (room other : Type 0) → (room → other) → IsReady position time reserved room → IsReady position time reserved other
+ready_elsewhere position time None room other f h = tt
+ready_elsewhere position time (Some r) room other f h = (h.0, f h.1)
+
+-- ---- a log that is read
+
+pub opening_entered : (newest : Option View) (mark entries : ℕ) (table : List Retained) (e : Retained) (key : Option Key)
+    → IsOpening newest mark entries table → e.position ≡ mark + entries → e.position < JOURNAL_LIMIT
+    → IsOpening newest mark (entries + 1) (joined table e key)
+opening_entered newest mark entries table e key s is room = record {
+  version = s.version;
+  fits = omega (arith, room, is);
+  positions = below_joined (mark + (entries + 1)) table e key (below (mark + entries) (mark + (entries + 1)) table (omega arith) s.positions) (omega (arith, is));
+}

@@ -1,0 +1,9 @@
+use Rattle.std.proofs.Common.{◌≡◌, ◌-◌}
+use Rattle.cdr_codec.specs.Formats.{read_each}
+use Rattle.cdr_codec.proofs.CodecLaws.{with_front}
+use Rattle.message_log.specs.Records.{retained}
+use Rattle.message_log.proofs.reading.each_retained.Given as goal
+
+-- those that were read, in front of those that are left
+abbrev pub invariant-loop : goal.invariant-loop
+invariant-loop l = with_front l.all.items (read_each retained.read (l.count - l.counter) l.reader) ≡ read_each retained.read l.count l.fn.reader

@@ -1,0 +1,7 @@
+use Rattle.std.proofs.Common.{◌≡◌, drop, []}
+use Rattle.message_log.specs.Records.{members_from}
+use Rattle.message_log.proofs.reading.members_of.Given as goal
+
+-- those that joined, and those that are left
+abbrev pub invariant-loop-host : goal.invariant-loop-host
+invariant-loop-host l = members_from l.members (drop l.host-index l.hosts) ≡ members_from [] l.hosts

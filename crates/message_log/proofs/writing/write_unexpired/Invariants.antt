@@ -1,0 +1,11 @@
+use Rattle.std.proofs.Common.{◌≡◌, drop}
+use Rattle.cdr_codec.specs.Calls.{appended_each}
+use Rattle.reply_table.specs.Entries.{unexpired}
+use Rattle.message_log.specs.Records.{retained}
+use Rattle.message_log.proofs.writing.write_unexpired.Given as goal
+
+-- those that are left, behind what was written
+abbrev pub invariant-loop-index : goal.invariant-loop-index
+invariant-loop-index l =
+    appended_each retained.written (unexpired l.time.0 (drop l.index l.table.entries)) l.writer
+    ≡ appended_each retained.written (unexpired l.time.0 l.table.entries) l.fn.writer

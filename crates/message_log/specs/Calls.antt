@@ -1,0 +1,170 @@
+-- What a log's calls make of it.
+use Rattle.std.specs.Prelude.{◌≡◌, ℕ, ◌+◌, ◌<◌, max, Bool, true, false, List, [], ◌∷◌, ◌++◌, length, Option, Some, None, option_map, Result, Ok, Err, ◌⊎◌}
+use Rattle.ft_base.specs.Journal.{Entry}
+use Rattle.ft_base.specs.declared.limits.TheConstants.{VIEW_LIMIT}
+use Rattle.ft_base.specs.declared.numbers.Tick.{Tick}
+use Rattle.ft_base.specs.declared.numbers.Version.{Version}
+use Rattle.ft_base.specs.declared.requests.Outcome.{Outcome}
+use Rattle.ft_base.specs.declared.requests.Request.{Request}
+use Rattle.ft_base.specs.declared.views.View.{View}
+use Rattle.cdr_codec.specs.declared.orders.Order.TheVariants.{Big}
+use Rattle.cdr_codec.specs.Calls.{Writer, appended}
+use Rattle.cdr_codec.specs.Encapsulations.{encapsulated}
+use Rattle.cdr_codec.specs.Formats.{number}
+use Rattle.ft_outside.specs.Outside.{next_count}
+use Rattle.ft_outside.specs.Keeping.{plan_after, IsForetold}
+use Rattle.reply_table.specs.Entries.{unanswered, joined, unexpired, with_reply}
+use Rattle.reply_table.specs.declared.entries.Retained.{Retained}
+use Rattle.message_log.specs.Picture.{Picture, Reserved, length_of}
+use Rattle.message_log.specs.Records.{formed, entry, view, checkpoint}
+use Rattle.message_log.specs.declared.answers.Appended.{Appended}
+use Rattle.message_log.specs.declared.answers.Appended.TheVariants.{At, Failed}
+use Rattle.message_log.specs.declared.answers.LogFault.{LogFault}
+use Rattle.message_log.specs.declared.answers.LogFault.TheVariants as log_faults
+use Rattle.message_log.specs.declared.records.Accepted.{Accepted}
+use Rattle.message_log.specs.declared.records.Checkpoint.{Checkpoint}
+use Rattle.message_log.specs.declared.reservations.Reservation.{Reservation}
+use Rattle.message_log.specs.declared.tidying.Tidied.{Tidied}
+use Rattle.message_log.specs.declared.tidying.Tidied.TheVariants.{Cut, Uncut, Unwritten}
+
+-- ---- records
+
+-- the writer behind the octets of the order and of the form
+abbrev pub begun : ℕ → Writer
+begun form = appended (number 1).written form (record { order = Big; place = 0; text = 0 ∷ [] })
+
+unfoldable pub entry_record : Accepted → List ℕ
+entry_record accepted = encapsulated Big (formed 1 entry) accepted
+
+unfoldable pub view_record : View → List ℕ
+view_record v = encapsulated Big (formed 2 view) v
+
+unfoldable pub checkpoint_record : Checkpoint → List ℕ
+checkpoint_record c = encapsulated Big (formed 3 checkpoint) c
+
+-- what was reserved, with its record
+abbrev pub reserved_of : Option Reservation → Option Reserved
+reserved_of None = None
+reserved_of (Some r) = Some (record { version = r.version; clock = r.clock; request = r.request })
+
+-- where memory was taken, the record is made, and there is room
+abbrev pub IsReady : ℕ → ℕ → Option Reservation → Type 0 → Type 0
+IsReady position time None room = Unit {0}
+IsReady position time (Some r) room =
+    (r.record ≡ entry_record (record { position = position; version = r.version; at = record { 0 = max r.clock.0 time }; request = r.request })) × room
+
+-- ---- a writing call leaves of the keeper
+
+-- these records, this plan and this count of faults; and no memory is taken any more
+abbrev pub kept : Picture → List (List ℕ) → Option (List Bool) → ℕ → Picture
+kept log records plan faults = record log { reserved = None; records = records; plan = plan; faults = faults }
+
+-- ---- a fresh log
+
+abbrev pub fresh : View → Option (List Bool) → ℕ → Picture
+fresh first plan faults = record {
+  newest = first;
+  earlier = [];
+  mark = 0;
+  entries = [];
+  time = 0;
+  state = None;
+  table = [];
+  reserved = None;
+  records = view_record first ∷ [];
+  plan = plan;
+  faults = faults;
+}
+
+-- the first view is written, or the keeper is as it was but for its plan and its count of faults
+abbrev pub IsStarted : View → List (List ℕ) → List (List ℕ) → Option (List Bool) → Option (List Bool) → ℕ → ℕ → Result (Unit {0}) LogFault → Type 0
+IsStarted v before records plan plan_now faults now (Ok done) =
+    IsForetold plan false × (records ≡ before ++ view_record v ∷ []) × (plan_now ≡ plan_after plan) × (now ≡ faults)
+IsStarted v before records plan plan_now faults now (Err log_faults.Failed) =
+    IsForetold plan true × (records ≡ before) × (plan_now ≡ plan_after plan) × (now ≡ next_count faults)
+IsStarted v before records plan plan_now faults now (Err log_faults.ViewsFull) = ⊥
+IsStarted v before records plan plan_now faults now (Err log_faults.NoMemory) =
+    (records ≡ before) × (plan_now ≡ plan) × (now ≡ faults)
+
+-- ---- a request joins
+
+abbrev pub accepted_by : Picture → Version → Tick → Request → Accepted
+accepted_by log version clock request =
+    record { position = length_of log; version = version; at = record { 0 = max clock.0 log.time }; request = request }
+
+abbrev pub with_entry : Picture → Version → Tick → Request → Picture
+with_entry log version clock request =
+    let at = max clock.0 log.time in
+    record log {
+      entries = log.entries ++ record { at = at; request = request } ∷ [];
+      time = at;
+      table = joined log.table (unanswered (length_of log) version (record { 0 = at }) request) request.key;
+    }
+
+-- At names the position, which is the old length
+abbrev pub IsAppended : Picture → Version → Tick → Request → Appended → Picture → Type 0
+IsAppended old version clock request (At i) new =
+    (i ≡ length_of old) × IsForetold old.plan false
+    × (new ≡ kept (with_entry old version clock request) (old.records ++ entry_record (accepted_by old version clock request) ∷ []) (plan_after old.plan) old.faults)
+IsAppended old version clock request Failed new =
+    IsForetold old.plan true × (new ≡ kept old old.records (plan_after old.plan) (next_count old.faults))
+
+-- its reply
+abbrev pub with_outcome : Picture → ℕ → Outcome → Picture
+with_outcome log position outcome = record log { table = with_reply log.table position outcome }
+
+-- ---- the next view
+
+abbrev pub with_view : Picture → View → Picture
+with_view log v = record log { newest = v; earlier = log.earlier ++ log.newest ∷ [] }
+
+abbrev pub IsViewed : Picture → View → Result (Unit {0}) LogFault → Picture → Type 0
+IsViewed old v (Ok done) new =
+    (old.newest.version.0 < VIEW_LIMIT) × IsForetold old.plan false × (new ≡ kept (with_view old v) (old.records ++ view_record v ∷ []) (plan_after old.plan) old.faults)
+IsViewed old v (Err log_faults.Failed) new =
+    (old.newest.version.0 < VIEW_LIMIT) × IsForetold old.plan true × (new ≡ kept old old.records (plan_after old.plan) (next_count old.faults))
+IsViewed old v (Err log_faults.ViewsFull) new = (old.newest.version.0 ≡ VIEW_LIMIT) × (new ≡ old)
+IsViewed old v (Err log_faults.NoMemory) new = new ≡ old
+
+-- ---- a checkpoint
+
+abbrev pub checkpoint_of : Picture → Tick → List ℕ → Checkpoint
+checkpoint_of log clock state =
+    let time = max clock.0 log.time in
+    record { mark = length_of log; time = record { 0 = time }; state = state; retained = unexpired time log.table }
+
+-- the entries before it and the replies that have expired are dropped
+abbrev pub checkpointed : Picture → Tick → List ℕ → Picture
+checkpointed log clock state =
+    let time = max clock.0 log.time in
+    record log { mark = length_of log; entries = []; time = time; state = Some state; table = unexpired time log.table }
+
+-- After the checkpoint the newest view is written again, and then all records before the checkpoint are
+-- cut. Where the view can't be written, or the cut fails, the checkpoint counts all the same.
+abbrev pub IsTidied : Tidied → List (List ℕ) → List ℕ → List ℕ → Option (List Bool) → ℕ → List (List ℕ) → Option (List Bool) → ℕ → Type 0
+IsTidied Cut before written viewed plan faults records plan_now now =
+    IsForetold plan false × IsForetold (plan_after plan) false
+    × (records ≡ written ∷ viewed ∷ []) × (plan_now ≡ plan_after (plan_after plan)) × (now ≡ faults)
+IsTidied Uncut before written viewed plan faults records plan_now now =
+    IsForetold plan false × IsForetold (plan_after plan) true
+    × (records ≡ before ++ written ∷ viewed ∷ []) × (plan_now ≡ plan_after (plan_after plan)) × (now ≡ next_count faults)
+IsTidied Unwritten before written viewed plan faults records plan_now now =
+    IsForetold plan true
+    × (records ≡ before ++ written ∷ []) × (plan_now ≡ plan_after plan) × (now ≡ next_count faults)
+
+-- the checkpoint's own write decides
+abbrev pub IsTidiedOrFailed : Option Tidied → List (List ℕ) → List ℕ → List ℕ → Option (List Bool) → ℕ → List (List ℕ) → Option (List Bool) → ℕ → Type 0
+IsTidiedOrFailed None before written viewed plan faults records plan_now now =
+    IsForetold plan true × (records ≡ before) × (plan_now ≡ plan_after plan) × (now ≡ next_count faults)
+IsTidiedOrFailed (Some how) before written viewed plan faults records plan_now now =
+    IsForetold plan false × IsTidied how before written viewed (plan_after plan) faults records plan_now now
+
+abbrev pub IsCheckpointed : Picture → Tick → List ℕ → Result (Unit {0}) LogFault → Picture → Type 0
+IsCheckpointed old clock state (Ok done) new =
+    IsForetold old.plan false
+    × ((how : Tidied) × IsTidied how old.records (checkpoint_record (checkpoint_of old clock state)) (view_record old.newest) (plan_after old.plan) old.faults new.records new.plan new.faults)
+    × (new ≡ kept (checkpointed old clock state) new.records new.plan new.faults)
+IsCheckpointed old clock state (Err log_faults.Failed) new =
+    IsForetold old.plan true × (new ≡ kept old old.records (plan_after old.plan) (next_count old.faults))
+IsCheckpointed old clock state (Err log_faults.ViewsFull) new = ⊥
+IsCheckpointed old clock state (Err log_faults.NoMemory) new = new ≡ old

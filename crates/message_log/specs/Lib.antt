@@ -1,0 +1,7 @@
+pub mod Records
+pub mod Picture
+pub mod Admission
+pub mod Calls
+pub mod Standing
+pub mod Laws
+pub mod Opening

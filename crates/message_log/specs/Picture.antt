@@ -1,0 +1,74 @@
+-- What a contract sees of a log.
+use Rattle.std.specs.Prelude.{◌≡◌, ℕ, ◌+◌, ◌-◌, ◌<◌, ◌≤◌, Bool, true, nat_lt, if◌then◌else◌, List, [], ◌∷◌, ◌++◌, length, slice_get, Option, Some, None, option_map}
+use Rattle.std.specs.List.{AllByRecursion}
+use Rattle.ft_base.specs.Journal.{Entry}
+use Rattle.ft_base.specs.Members.{is_member}
+use Rattle.ft_base.specs.declared.limits.TheConstants.{HOST_LIMIT, VIEW_LIMIT, JOURNAL_LIMIT}
+use Rattle.ft_base.specs.declared.numbers.HostNo.{HostNo}
+use Rattle.ft_base.specs.declared.numbers.Tick.{Tick}
+use Rattle.ft_base.specs.declared.numbers.Version.{Version}
+use Rattle.ft_base.specs.declared.requests.Request.{Request}
+use Rattle.ft_base.specs.declared.views.View.{View}
+use Rattle.reply_table.specs.declared.entries.Retained.{Retained}
+
+-- the request for which memory was taken, with the version and the clock of its writer
+pub record Reserved : Type 0 where
+  pub version : Version
+  pub clock : Tick
+  pub request : Request
+
+pub record Picture : Type 0 where
+  -- the newest view, and those before it in order of version
+  pub newest : View
+  pub earlier : List View
+  -- how many entries the last checkpoint made needless, and the entries behind them
+  pub mark : ℕ
+  pub entries : List Entry
+  -- the greatest tick of an acceptance or a checkpoint
+  pub time : ℕ
+  -- the state of the last checkpoint
+  pub state : Option (List ℕ)
+  -- the retained entries, in order of position
+  pub table : List Retained
+  pub reserved : Option Reserved
+  -- of the keeper
+  pub records : List (List ℕ)
+  pub plan : Option (List Bool)
+  pub faults : ℕ
+
+-- how many entries the journal has
+abbrev pub length_of : Picture → ℕ
+length_of log = log.mark + length log.entries
+
+-- the request of a position, where the log has it still
+abbrev pub request_at : Picture → ℕ → Option Request
+request_at log position =
+    if nat_lt position log.mark then None else option_map (λ (e : Entry). e.request) (slice_get log.entries (position - log.mark))
+
+abbrev pub views_of : Picture → List View
+views_of log = log.earlier ++ log.newest ∷ []
+
+-- a primary is one of the members
+abbrev pub IsPrimaryOf : List ℕ → Option HostNo → Type 0
+IsPrimaryOf members None = Unit {0}
+IsPrimaryOf members (Some host) = is_member host.0 members ≡ true
+
+-- a view that a log can write: its members are hosts that there can be, and a primary is one of them
+pub record IsLogged (view : View) : Type 0 where
+  pub hosts : AllByRecursion (λ host. host < HOST_LIMIT) view.members
+  pub primary : IsPrimaryOf view.members view.primary
+
+-- ---- what is true of every log
+
+-- Positions fit, and the newest version does; retained entries are the journal's; where memory was taken,
+-- there is room for one more of each.
+pub record IsSound (newest : View) (earlier mark entries : ℕ) (table : List Retained) : Type 0 where
+  pub first : earlier < newest.version.0
+  pub last : newest.version.0 ≤ VIEW_LIMIT
+  pub fits : mark + entries ≤ JOURNAL_LIMIT
+  pub positions : AllByRecursion (λ e. e.position < mark + entries) table
+
+pub record HasRoom (spare entries entries_room : ℕ) (table_room : Bool) : Type 0 where
+  pub record_room : 0 < spare
+  pub entry_room : entries < entries_room
+  pub row_room : table_room ≡ true

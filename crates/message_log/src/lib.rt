@@ -1,0 +1,21 @@
+//! A group's log: its views, its journal of accepted requests with the replies that are retained, and
+//! its checkpoints, on a keeper of records. (Chapter 23, Logging and Recovery Mechanisms.)
+#![tactic(auto)]
+
+mod answers;
+mod entries;
+mod laws;
+mod logs;
+mod opening;
+mod reading;
+mod records;
+mod reservations;
+#[cfg(test)]
+mod tests;
+mod tidying;
+mod writing;
+
+pub use answers::{Admit, Appended, LogFault, ReopenFault};
+pub use laws::{logs_say_what_journals_say, logs_stand_for_journals};
+pub use logs::Log;
+pub use records::{Accepted, Checkpoint, Record, RetainedList};

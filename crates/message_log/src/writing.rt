@@ -1,0 +1,303 @@
+//! Records, written.
+ghost use Rattle.std.specs.Prelude.{◌≡◌, ◌<◌, ◌^◌, ◌+◌, ℕ, length, OnOk, IfOk, drop, option_copied};
+ghost use Rattle.std.specs.List.{cons_option};
+ghost use Rattle.cdr_codec.specs.Calls.{appended, appended_each};
+ghost use Rattle.cdr_codec.specs.Formats.{octets};
+ghost use Rattle.reply_table.specs.Entries.{is_unexpired, unexpired};
+ghost use Rattle.message_log.specs.Records as forms;
+ghost use Rattle.message_log.specs.Calls.{entry_record, view_record, checkpoint_record, begun};
+
+use cdr_codec::{CdrWriter, Order, begin_encapsulation};
+use ft_base::{Bytes, HostNo, Key, NoMemory, Outcome, Request, Tick, Version, View};
+use reply_table::{ReplyTable, Retained};
+use std::alloc::Global;
+
+/// The places of a record are unsigned longs, and so it has fewer bytes than this.
+pub(crate) const RECORD_LIMIT: usize = 0xFFFF_FFF8;
+
+/// The form's octet of each record.
+pub(crate) const ENTRY: u8 = 1;
+
+pub(crate) const VIEW: u8 = 2;
+
+pub(crate) const CHECKPOINT: u8 = 3;
+
+/// A sequence of octets; there is no memory for one that is too long for a record.
+fn write_bytes(writer: &mut CdrWriter, bytes: &[u8]) -> Result<(), NoMemory>
+    ensures written { OnOk result (writer.new ≡ appended octets.written bytes.now writer.old) }
+{
+    if bytes.len() >= RECORD_LIMIT {
+        return Err(NoMemory);
+    }
+    writer.write_octets(bytes)
+}
+
+#[tactic(auto, using(crate::proofs::WritingLaws::key_written))]
+fn write_key(writer: &mut CdrWriter, key: &Key) -> Result<(), NoMemory>
+    ensures written { OnOk result (writer.new ≡ appended forms.key.written key.now writer.old) }
+{
+    let retention = key.retention.0;
+    let expiration = key.expiration.0;
+    writer.write_string(key.client.bytes())?;
+    writer.write_i32(retention)?;
+    writer.write_u64(expiration)?;
+    Ok(())
+}
+
+#[tactic(auto, using(crate::proofs::WritingLaws::none_written, crate::proofs::WritingLaws::some_written))]
+fn write_optional_key(writer: &mut CdrWriter, key: &Option<Key>) -> Result<(), NoMemory>
+    ensures written { OnOk result (writer.new ≡ appended (forms.optional forms.key).written key.now writer.old) }
+{
+    match key {
+        None => {
+            writer.write_bool(false)?;
+            Ok(())
+        }
+        Some(key) => {
+            writer.write_bool(true)?;
+            write_key(writer, key)?;
+            Ok(())
+        }
+    }
+}
+
+#[tactic(auto, using(crate::proofs::WritingLaws::request_written))]
+fn write_request(writer: &mut CdrWriter, request: &Request) -> Result<(), NoMemory>
+    ensures written { OnOk result (writer.new ≡ appended forms.request.written request.now writer.old) }
+{
+    write_optional_key(writer, &request.key)?;
+    writer.write_string(request.op.bytes())?;
+    write_bytes(writer, request.args.bytes())?;
+    Ok(())
+}
+
+#[tactic(auto, using(crate::proofs::WritingLaws::entry_written))]
+fn write_entry(
+    writer: &mut CdrWriter,
+    position: u32,
+    version: Version,
+    at: Tick,
+    request: &Request,
+) -> Result<(), NoMemory>
+    ensures written { OnOk result (writer.new ≡ appended forms.entry.written (record { position = position; version = version; at = at; request = request.now }) writer.old) }
+{
+    writer.write_u32(position)?;
+    writer.write_u32(version.0)?;
+    writer.write_u64(at.0)?;
+    write_request(writer, request)?;
+    Ok(())
+}
+
+/// A writer that began a record of a form.
+fn begin(alloc: Global, form: u8) -> Result<CdrWriter, NoMemory>
+    ensures { IfOk result (λ writer. writer ≡ begun form) }
+{
+    let mut writer = begin_encapsulation(alloc, Order::Big)?;
+    writer.write_octet(form)?;
+    Ok(writer)
+}
+
+/// The record that a writer has written.
+fn finish(writer: CdrWriter) -> Result<Bytes, NoMemory>
+    ensures record { IfOk result (λ bytes. bytes ≡ writer.text) }
+    ensures short { IfOk result (λ bytes. length bytes + 8 < 2 ^ 32) }
+{
+    if writer.bytes().len() >= RECORD_LIMIT {
+        return Err(NoMemory);
+    }
+    Ok(writer.finish())
+}
+
+/// The record of an accepted request.
+#[tactic(auto, using(crate::proofs::WritingLaws::formed_written), unfolding(crate::specs::Calls::entry_record))]
+pub(crate) fn entry_record(
+    alloc: Global,
+    position: u32,
+    version: Version,
+    at: Tick,
+    request: &Request,
+) -> Result<Bytes, NoMemory>
+    ensures { IfOk result (λ bytes. bytes ≡ entry_record (record { position = position; version = version; at = at; request = request.now })) }
+{
+    let mut writer = begin(alloc, ENTRY)?;
+    write_entry(&mut writer, position, version, at, request)?;
+    finish(writer)
+}
+
+pub(crate) fn primary_octet(primary: Option<HostNo>) -> u8
+    ensures { result ≡ forms.primary_sign primary }
+{
+    match primary {
+        None => 255,
+        Some(host) => host.0,
+    }
+}
+
+#[tactic(auto, using(crate::proofs::WritingLaws::view_written))]
+fn write_view(writer: &mut CdrWriter, view: &View) -> Result<(), NoMemory>
+    ensures written { OnOk result (writer.new ≡ appended forms.view.written view.now writer.old) }
+{
+    let version = view.version.0;
+    let primary = primary_octet(view.primary);
+    writer.write_u32(version)?;
+    write_bytes(writer, view.members.hosts())?;
+    writer.write_octet(primary)?;
+    Ok(())
+}
+
+/// The record of a view.
+#[tactic(auto, using(crate::proofs::WritingLaws::formed_written), unfolding(crate::specs::Calls::view_record))]
+pub(crate) fn view_record(alloc: Global, view: &View) -> Result<Bytes, NoMemory>
+    ensures { IfOk result (λ bytes. bytes ≡ view_record view.now) }
+{
+    let mut writer = begin(alloc, VIEW)?;
+    write_view(&mut writer, view)?;
+    finish(writer)
+}
+
+#[tactic(auto, using(crate::proofs::WritingLaws::value_written, crate::proofs::WritingLaws::user_written))]
+fn write_outcome(writer: &mut CdrWriter, outcome: &Outcome) -> Result<(), NoMemory>
+    ensures written { OnOk result (writer.new ≡ appended forms.outcome.written outcome.now writer.old) }
+{
+    match outcome {
+        Outcome::Value(value) => {
+            writer.write_bool(true)?;
+            write_bytes(writer, value.bytes())?;
+            Ok(())
+        }
+        Outcome::User(name) => {
+            writer.write_bool(false)?;
+            write_bytes(writer, name.bytes())?;
+            Ok(())
+        }
+    }
+}
+
+#[tactic(auto, using(crate::proofs::WritingLaws::none_written, crate::proofs::WritingLaws::some_written))]
+fn write_reply(writer: &mut CdrWriter, reply: &Option<Outcome>) -> Result<(), NoMemory>
+    ensures written { OnOk result (writer.new ≡ appended (forms.optional forms.outcome).written reply.now writer.old) }
+{
+    match reply {
+        None => {
+            writer.write_bool(false)?;
+            Ok(())
+        }
+        Some(outcome) => {
+            writer.write_bool(true)?;
+            write_outcome(writer, outcome)?;
+            Ok(())
+        }
+    }
+}
+
+#[tactic(auto, using(crate::proofs::WritingLaws::retained_written))]
+fn write_retained(writer: &mut CdrWriter, entry: &Retained) -> Result<(), NoMemory>
+    ensures written { OnOk result (writer.new ≡ appended forms.retained.written entry.now writer.old) }
+{
+    let position = entry.position;
+    let version = entry.version.0;
+    let at = entry.at.0;
+    writer.write_u32(position)?;
+    writer.write_u32(version)?;
+    writer.write_u64(at)?;
+    write_request(writer, &entry.request)?;
+    write_reply(writer, &entry.reply)?;
+    Ok(())
+}
+
+fn is_unexpired(time: Tick, entry: &Retained) -> bool
+    ensures { result ≡ is_unexpired time.0 entry.now.request.key }
+{
+    match &entry.request.key {
+        None => false,
+        Some(key) => time.0 < key.expiration.0,
+    }
+}
+
+/// How many entries a table has.
+fn count(table: &ReplyTable) -> Result<u32, NoMemory>
+    ensures { IfOk result (λ count. count ≡ length table.now.entries) }
+{
+    let count = table.len();
+    if count >= RECORD_LIMIT {
+        return Err(NoMemory);
+    }
+    Ok(count as u32)
+}
+
+/// The entry with a number, where its expiration is still to come.
+fn unexpired_at(table: &ReplyTable, index: u32, time: Tick) -> Option<&Retained>
+    ensures { unexpired time.0 (drop index table.now.entries) ≡ cons_option (option_copied result) (unexpired time.0 (drop (index + 1) table.now.entries)) }
+{
+    match table.retained(index) {
+        Some(entry) if is_unexpired(time, entry) => Some(entry),
+        _ => None,
+    }
+}
+
+/// How many entries have an expiration that is still to come.
+fn count_unexpired(table: &ReplyTable, count: u32, time: Tick) -> u32
+    requires { count ≡ length table.now.entries }
+    ensures { result ≡ length (unexpired time.0 table.now.entries) }
+{
+    let mut left: u32 = 0;
+    for index in 0..count {
+        if unexpired_at(table, index, time).is_some() {
+            left += 1;
+        }
+    }
+    left
+}
+
+fn write_unexpired(
+    writer: &mut CdrWriter,
+    table: &ReplyTable,
+    count: u32,
+    time: Tick,
+) -> Result<(), NoMemory>
+    requires { count ≡ length table.now.entries }
+    ensures written { OnOk result (writer.new ≡ appended_each forms.retained.written (unexpired time.0 table.now.entries) writer.old) }
+{
+    for index in 0..count {
+        if let Some(entry) = unexpired_at(table, index, time) {
+            write_retained(writer, entry)?;
+        }
+    }
+    Ok(())
+}
+
+#[tactic(auto, using(crate::proofs::WritingLaws::checkpoint_written))]
+fn write_checkpoint(
+    writer: &mut CdrWriter,
+    mark: u32,
+    time: Tick,
+    state: &Bytes,
+    table: &ReplyTable,
+) -> Result<(), NoMemory>
+    ensures written { OnOk result (writer.new ≡ appended forms.checkpoint.written (record { mark = mark; time = time; state = state.now; retained = unexpired time.0 table.now.entries }) writer.old) }
+{
+    let count = count(table)?;
+    let left = count_unexpired(table, count, time);
+    writer.write_u32(mark)?;
+    writer.write_u64(time.0)?;
+    write_bytes(writer, state.bytes())?;
+    writer.write_u32(left)?;
+    write_unexpired(writer, table, count, time)?;
+    Ok(())
+}
+
+/// The record of a checkpoint at this mark and time, with the entries of a table that have not expired.
+#[tactic(auto, using(crate::proofs::WritingLaws::formed_written), unfolding(crate::specs::Calls::checkpoint_record))]
+pub(crate) fn checkpoint_record(
+    alloc: Global,
+    mark: u32,
+    time: Tick,
+    state: &Bytes,
+    table: &ReplyTable,
+) -> Result<Bytes, NoMemory>
+    ensures { IfOk result (λ bytes. bytes ≡ checkpoint_record (record { mark = mark; time = time; state = state.now; retained = unexpired time.0 table.now.entries })) }
+{
+    let mut writer = begin(alloc, CHECKPOINT)?;
+    write_checkpoint(&mut writer, mark, time, state, table)?;
+    finish(writer)
+}

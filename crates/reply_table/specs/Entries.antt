@@ -1,0 +1,97 @@
+-- The retained entries of a journal, as a list in order of position, and what the table's calls make of it.
+-- (Chapter 23, FTRequestServiceContext: a repeated request is given the reply of its first acceptance.)
+use Rattle.std.specs.Prelude.{◌≡◌, ℕ, ◌<◌, ◌==◌, ◌&&◌, Bool, false, not, nat_lt, if◌then◌else◌, List, [], ◌∷◌, ◌++◌, map, Option, Some, None}
+use Rattle.std.specs.Option.{option_and_then}
+use Rattle.std.specs.Ordering.{int_eq}
+use Rattle.std.specs.List.{AllByRecursion, filter, find}
+use Rattle.std.specs.Str.{bytes_eq}
+use Rattle.ft_base.specs.Journal.{is_held_by}
+use Rattle.ft_base.specs.declared.numbers.Version.{Version}
+use Rattle.ft_base.specs.declared.numbers.Tick.{Tick}
+use Rattle.ft_base.specs.declared.requests.Key.{Key}
+use Rattle.ft_base.specs.declared.requests.Request.{Request}
+use Rattle.ft_base.specs.declared.requests.Outcome.{Outcome}
+use Rattle.reply_table.specs.declared.entries.Retained.{Retained}
+use Rattle.reply_table.specs.declared.entries.Found.{Found}
+use Rattle.reply_table.specs.declared.entries.Found.TheVariants.{Fresh, Same, Other}
+
+-- what a contract sees of a table
+pub record Table : Type 0 where
+  pub entries : List Retained
+  -- whether there is room for one more
+  pub room : Bool
+
+-- ---- what a request is to the entries
+
+-- a request says the same as another: operation, arguments and expiration
+abbrev pub expires_at : ℕ → Option Key → Bool
+expires_at expiration None = false
+expires_at expiration (Some key) = key.expiration.0 == expiration
+
+abbrev pub says_same : Request → Key → Request → Bool
+says_same request key other =
+    (bytes_eq request.op other.op && bytes_eq request.args other.args) && expires_at key.expiration.0 other.key
+
+-- the entry that holds a key's retention id: of the same client, with an expiration still to come
+abbrev pub holder : List Retained → Key → ℕ → Option Retained
+holder entries key now = find (λ e. is_held_by now key e.request.key) entries
+
+abbrev pub against : Request → Key → Option Retained → Found
+against request key None = Fresh
+against request key (Some entry) = if says_same request key entry.request then Same entry.position else Other entry.position
+
+-- a request without a key repeats nothing
+abbrev pub found : List Retained → Request → Option Key → ℕ → Found
+found entries request None now = Fresh
+found entries request (Some key) now = against request key (holder entries key now)
+
+-- ---- how entries come and go
+
+abbrev pub unanswered : ℕ → Version → Tick → Request → Retained
+unanswered position version at request = record { position = position; version = version; at = at; request = request; reply = None }
+
+abbrev pub is_call : Key → Option Key → Bool
+is_call key None = false
+is_call key (Some other) = bytes_eq key.client other.client && int_eq key.retention.0 other.retention.0
+
+-- without the entry of a client's retention id
+abbrev pub without : Key → List Retained → List Retained
+without key entries = filter (λ e. not (is_call key e.request.key)) entries
+
+-- a request with a key comes last, in place of an earlier one of the same retention id
+abbrev pub joined : List Retained → Retained → Option Key → List Retained
+joined entries entry None = entries
+joined entries entry (Some key) = without key entries ++ entry ∷ []
+
+abbrev pub is_unexpired : ℕ → Option Key → Bool
+is_unexpired time None = false
+is_unexpired time (Some key) = nat_lt time key.expiration.0
+
+-- those whose expiration is still to come
+abbrev pub unexpired : ℕ → List Retained → List Retained
+unexpired time entries = filter (λ e. is_unexpired time e.request.key) entries
+
+-- ---- replies
+
+abbrev pub entry_at : List Retained → ℕ → Option Retained
+entry_at entries position = find (λ e. e.position == position) entries
+
+-- the reply of the entry at a position, once it has run
+abbrev pub reply_of : List Retained → ℕ → Option Outcome
+reply_of entries position = option_and_then (λ (e : Retained). e.reply) (entry_at entries position)
+
+abbrev pub answered : ℕ → Outcome → Retained → Retained
+answered position outcome e = if e.position == position then record e { reply = Some outcome } else e
+
+-- the entry at a position has run, with this outcome
+abbrev pub with_reply : List Retained → ℕ → Outcome → List Retained
+with_reply entries position outcome = map (answered position outcome) entries
+
+-- ---- the order of entries
+
+abbrev pub IsAfter : ℕ → List Retained → Type 0
+IsAfter position entries = AllByRecursion (λ e. e.position < position) entries
+
+abbrev pub AreInOrder : List Retained → Type 0
+AreInOrder [] = Unit {0}
+AreInOrder (e ∷ entries) = AllByRecursion (λ other. e.position < other.position) entries × AreInOrder entries
