@@ -1,0 +1,9 @@
+//! The queue: a servant that keeps items of 16 bytes, which are popped in the order in which they
+//! were pushed.
+#![tactic(auto)]
+
+mod contents;
+mod operations;
+mod queues;
+
+pub use queues::Queue;

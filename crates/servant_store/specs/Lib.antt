@@ -1,0 +1,5 @@
+pub mod Sayings
+pub mod Operations
+pub mod Store
+pub mod Views
+pub mod Laws
