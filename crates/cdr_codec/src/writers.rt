@@ -103,6 +103,15 @@ impl CdrWriter {
         self.text.as_slice()
     }
 
+    /// Takes room for so many bytes more, so that they need no memory of their own.
+    pub fn reserve(&mut self, more: usize) -> Result<(), NoMemory>
+        requires { more < 2 ^ 40 }
+        ensures { self.new ≡ self.old }
+    {
+        self.text.reserve(more)?;
+        Ok(())
+    }
+
     /// The text. It takes no memory.
     pub fn finish(self) -> Bytes
         ensures { result ≡ self.text }

@@ -1,8 +1,7 @@
-pub mod NumberLemmas
 pub mod NameLemmas
 pub mod WordLemmas
 pub mod GrammarLemmas
 pub mod ReadingLemmas
 pub mod LineLemmas
 pub mod OptionLemmas
-pub mod CanonicalLemmas
+pub mod ArgumentLemmas

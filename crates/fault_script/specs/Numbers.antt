@@ -1,16 +1,7 @@
--- Numbers in words: decimal, of 1 to 20 digits, with any zeros in front.
-use Rattle.std.specs.Prelude.{ℕ, ◌-◌, ◌^◌, ◌==◌, ◌&&◌, Bool, nat_le, nat_lt, min, if◌then◌else◌, List, length, Option, Some, None, option_map, option_and_then, ℤ, pos, negsuc, neg_ℤ, slice_index, drop}
-use Rattle.std.specs.List.{list_all}
-use Rattle.std.specs.Char.{is_ascii_digit}
-use Rattle.std.specs.Str.Parse.{digits_value}
-
--- 1 to 20 digits
-abbrev pub is_number : List ℕ → Bool
-is_number word = nat_le 1 (length word) && nat_le (length word) 20 && list_all is_ascii_digit word
-
--- the number that a word is, if it is one
-abbrev pub number : List ℕ → Option ℕ
-number word = if is_number word then Some (digits_value 10 word) else None
+-- Numbers in words: decimal, of 1 to 20 digits, with any zeros in front (decimal_numbers); and with a sign, a
+-- range, or a cap.
+use Rattle.std.specs.Prelude.{ℕ, ◌-◌, ◌^◌, ◌==◌, Bool, nat_lt, min, if◌then◌else◌, List, Option, Some, None, option_map, option_and_then, ℤ, pos, negsuc, neg_ℤ, slice_index, drop}
+pub use Rattle.decimal_numbers.specs.Numbers.{is_number, number}
 
 -- the greatest number of 64 bits stands for every number above it
 abbrev pub capped : ℕ → ℕ

@@ -1,14 +1,14 @@
-ghost use Rattle.std.specs.Prelude.{◌≡◌, ℕ, ◌+◌, ◌^◌, ◌<◌, ◌++◌, List, [], length, Option, Some, option_map, IfOk, IfSome};
+ghost use Rattle.std.specs.Prelude.{◌≡◌, ◌^◌, ◌<◌, length, Some, IfOk, IfSome};
 ghost use Rattle.ft_base.specs.Canonical.{one_of, IsCanonical};
 ghost use Rattle.ft_base.specs.Text.{zero_place};
 ghost use Rattle.fault_script.specs.Faults.{IsAnswer};
-ghost use Rattle.fault_script.specs.Arguments.{argument, argument_from, arguments, parameters, call_words_from, call_words_of, IsFound, octets_of, text_of};
+ghost use Rattle.fault_script.specs.Arguments.{argument, argument_from, arguments, parameters, spelled_arguments, call_words_from, call_words_of, IsFound, octets_of};
 
 use crate::lines::{LineFault, Words};
 use crate::numerals::{read_i64, read_u32};
 use crate::options::read_options;
-use crate::values::{push_i64, push_octets, push_text, push_u32};
-use ft_base::{Bytes, NoMemory, Par, Retention, Signature, Tick};
+use cdr_codec::canonical;
+use ft_base::{Bytes, NoMemory, Par, Retention, Signature, Tick, Value};
 use hex::FromHexError;
 use std::alloc::Global;
 
@@ -32,45 +32,6 @@ fn first_zero(text: &[u8]) -> Option<usize>
     text.iter().position(|byte| *byte == 0)
 }
 
-fn push_text_word(out: &mut Vec<u8>, word: &[u8]) -> Result<(), LineFault>
-    ensures { IsFound (λ _. out.new.items) result
-        (option_map (λ value. out.old.items ++ value) (argument Par.Text (length out.old.items) word.now)) }
-{
-    if word.len() >= LENGTH_LIMIT || first_zero(word).is_some() {
-        return Err(LineFault::Syntax);
-    }
-    match push_text(out, word) {
-        Ok(()) => Ok(()),
-        Err(NoMemory) => Err(LineFault::NoMemory),
-    }
-}
-
-fn push_i64_word(out: &mut Vec<u8>, word: &[u8]) -> Result<(), LineFault>
-    ensures { IsFound (λ _. out.new.items) result
-        (option_map (λ value. out.old.items ++ value) (argument Par.I64 (length out.old.items) word.now)) }
-{
-    let Some(value) = read_i64(word) else {
-        return Err(LineFault::Syntax);
-    };
-    match push_i64(out, value) {
-        Ok(()) => Ok(()),
-        Err(NoMemory) => Err(LineFault::NoMemory),
-    }
-}
-
-fn push_u32_word(out: &mut Vec<u8>, word: &[u8]) -> Result<(), LineFault>
-    ensures { IsFound (λ _. out.new.items) result
-        (option_map (λ value. out.old.items ++ value) (argument Par.U32 (length out.old.items) word.now)) }
-{
-    let Some(value) = read_u32(word) else {
-        return Err(LineFault::Syntax);
-    };
-    match push_u32(out, value) {
-        Ok(()) => Ok(()),
-        Err(NoMemory) => Err(LineFault::NoMemory),
-    }
-}
-
 /// Octets: `-` for none, else hexadecimal.
 pub(crate) fn read_octets(alloc: Global, word: &[u8]) -> Result<Vec<u8>, LineFault>
     ensures found { IsFound (λ octets. octets.items) result (octets_of word.now) }
@@ -91,103 +52,126 @@ pub(crate) fn read_octets(alloc: Global, word: &[u8]) -> Result<Vec<u8>, LineFau
     }
 }
 
-fn push_octets_word(alloc: Global, out: &mut Vec<u8>, word: &[u8]) -> Result<(), LineFault>
-    ensures { IsFound (λ _. out.new.items) result
-        (option_map (λ value. out.old.items ++ value) (argument Par.Octets (length out.old.items) word.now)) }
-{
-    let octets = read_octets(alloc, word)?;
-    match push_octets(out, octets.as_slice()) {
-        Ok(()) => Ok(()),
-        Err(NoMemory) => Err(LineFault::NoMemory),
-    }
-}
-
-/// Appends a parameter of this type, as this word says.
-fn push_argument(alloc: Global, out: &mut Vec<u8>, par: Par, word: &[u8]) -> Result<(), LineFault>
-    ensures { IsFound (λ _. out.new.items) result
-        (option_map (λ value. out.old.items ++ value) (argument par (length out.old.items) word.now)) }
+/// The value of this type that a word is.
+fn value_of(alloc: Global, par: Par, word: &[u8]) -> Result<Value, LineFault>
+    ensures { IsFound (λ value. value) result (argument par word.now) }
 {
     match par {
-        Par::I64 => push_i64_word(out, word),
-        Par::U32 => push_u32_word(out, word),
+        Par::I64 => match read_i64(word) {
+            Some(number) => Ok(Value::I64(number)),
+            None => Err(LineFault::Syntax),
+        },
+        Par::U32 => match read_u32(word) {
+            Some(number) => Ok(Value::U32(number)),
+            None => Err(LineFault::Syntax),
+        },
         Par::Bool => Err(LineFault::Syntax),
-        Par::Text => push_text_word(out, word),
-        Par::Octets => push_octets_word(alloc, out, word),
+        Par::Text => {
+            if word.len() >= LENGTH_LIMIT || first_zero(word).is_some() {
+                return Err(LineFault::Syntax);
+            }
+            let text = Bytes::of(alloc, word)?;
+            Ok(Value::Text(text))
+        }
+        Par::Octets => {
+            let octets = read_octets(alloc, word)?;
+            Ok(Value::Octets(Bytes::from_vec(octets)))
+        }
     }
 }
 
-/// Appends a parameter, and gives the words behind its own.
+/// Appends the value of a parameter, and gives the words behind its own.
 fn take_argument<'a>(
     alloc: Global,
-    out: &mut Vec<u8>,
+    values: &mut Vec<Value>,
     par: Par,
     words: &'a [Bytes],
 ) -> Result<&'a [Bytes], LineFault>
-    ensures { IsFound (λ rest. record { bytes = out.new.items; rest = rest.now }) result
-        (argument_from par out.old.items words.now) }
+    ensures { IsFound (λ rest. record { values = values.new.items; rest = rest.now }) result
+        (argument_from par values.old.items words.now) }
 {
     if words.is_empty() {
         return Err(LineFault::Syntax);
     }
-    match push_argument(alloc, out, par, words[0].bytes()) {
+    let value = value_of(alloc, par, words[0].bytes())?;
+    match values.push(value) {
         Ok(()) => Ok(&words[1..]),
-        Err(fault) => Err(fault),
+        Err(_) => Err(LineFault::NoMemory),
     }
 }
 
-/// Appends a parameter if there is to be one.
+/// Appends the value of a parameter if there is to be one.
 fn take_parameter<'a>(
     alloc: Global,
-    out: &mut Vec<u8>,
+    values: &mut Vec<Value>,
     par: Option<Par>,
     words: &'a [Bytes],
 ) -> Result<&'a [Bytes], LineFault>
-    ensures { IsFound (λ rest. record { bytes = out.new.items; rest = rest.now }) result
-        (arguments (one_of par) (record { bytes = out.old.items; rest = words.now })) }
+    ensures { IsFound (λ rest. record { values = values.new.items; rest = rest.now }) result
+        (arguments (one_of par) (record { values = values.old.items; rest = words.now })) }
 {
     match par {
         None => Ok(words),
-        Some(par) => take_argument(alloc, out, par, words),
+        Some(par) => take_argument(alloc, values, par, words),
     }
 }
 
 fn take_parameters<'a>(
     alloc: Global,
-    out: &mut Vec<u8>,
+    values: &mut Vec<Value>,
     signature: Signature,
     words: &'a [Bytes],
 ) -> Result<&'a [Bytes], LineFault>
-    ensures { IsFound (λ rest. record { bytes = out.new.items; rest = rest.now }) result
-        (arguments (parameters (Some signature)) (record { bytes = out.old.items; rest = words.now })) }
+    ensures { IsFound (λ rest. record { values = values.new.items; rest = rest.now }) result
+        (arguments (parameters (Some signature)) (record { values = values.old.items; rest = words.now })) }
 {
-    match take_parameter(alloc, out, signature.first, words) {
-        Ok(rest) => take_parameter(alloc, out, signature.second, rest),
+    match take_parameter(alloc, values, signature.first, words) {
+        Ok(rest) => take_parameter(alloc, values, signature.second, rest),
         Err(fault) => Err(fault),
     }
 }
 
 fn take_arguments<'a>(
     alloc: Global,
-    out: &mut Vec<u8>,
+    values: &mut Vec<Value>,
     signature: Option<Signature>,
     words: &'a [Bytes],
 ) -> Result<&'a [Bytes], LineFault>
-    ensures { IsFound (λ rest. record { bytes = out.new.items; rest = rest.now }) result
-        (arguments (parameters signature) (record { bytes = out.old.items; rest = words.now })) }
+    ensures { IsFound (λ rest. record { values = values.new.items; rest = rest.now }) result
+        (arguments (parameters signature) (record { values = values.old.items; rest = words.now })) }
 {
     match signature {
         None => Ok(words),
-        Some(signature) => take_parameters(alloc, out, signature, words),
+        Some(signature) => take_parameters(alloc, values, signature, words),
     }
 }
 
-fn with_options(args: Vec<u8>, words: &[Bytes]) -> Option<CallWords>
-    ensures read { result ≡ call_words_from (record { bytes = args.items; rest = words.now }) }
-    ensures args { IfSome result (λ call. call.args ≡ args.items) }
+/// The arguments in canonical form, and the words behind them.
+fn split_arguments<'a>(
+    alloc: Global,
+    signature: Option<Signature>,
+    words: &'a [Bytes],
+) -> Result<(Bytes, &'a [Bytes]), LineFault>
+    ensures found { IsFound (λ two. record { args = two.0; rest = two.1.now }) result (spelled_arguments signature words.now) }
+    ensures canonical { IfOk result (λ two. IsCanonical (parameters signature) two.0) }
+{
+    let mut values = Vec::new(alloc);
+    match take_arguments(alloc, &mut values, signature, words) {
+        Ok(rest) => match canonical(alloc, values.as_slice()) {
+            Ok(args) => Ok((args, rest)),
+            Err(NoMemory) => Err(LineFault::NoMemory),
+        },
+        Err(fault) => Err(fault),
+    }
+}
+
+fn with_options(args: Bytes, words: &[Bytes]) -> Option<CallWords>
+    ensures read { result ≡ call_words_from (record { args = args; rest = words.now }) }
+    ensures args { IfSome result (λ call. call.args ≡ args) }
 {
     let options = read_options(words)?;
     Some(CallWords {
-        args: Bytes::from_vec(args),
+        args,
         retention: options.retention,
         expiration: options.expiration,
         versioned: options.versioned,
@@ -206,13 +190,11 @@ pub fn call_words(
     // A servant can run an operation with these arguments.
     ensures canonical { IfOk result (λ call. IsCanonical (parameters signature) call.args) }
 {
-    let mut args = Vec::new(alloc);
-    let rest = match take_arguments(alloc, &mut args, signature, words.as_slice()) {
-        Ok(rest) => rest,
-        Err(fault) => return Err(fault),
-    };
-    match with_options(args, rest) {
-        Some(call) => Ok(call),
-        None => Err(LineFault::Syntax),
+    match split_arguments(alloc, signature, words.as_slice()) {
+        Ok((args, rest)) => match with_options(args, rest) {
+            Some(call) => Ok(call),
+            None => Err(LineFault::Syntax),
+        },
+        Err(fault) => Err(fault),
     }
 }

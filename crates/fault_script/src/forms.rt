@@ -8,8 +8,9 @@ ghost use Rattle.fault_script.specs.Forms.{is_kind, is_style, is_stop, hosts_lin
 use crate::arguments::read_octets;
 use crate::lines::{Line, LineFault, Words};
 use crate::names::{is_operation, read_name, read_operation};
-use crate::numerals::{cap, is_number, read_number, read_positive};
+use crate::numerals::{cap, read_positive};
 use crate::splitting::{is_script_name, only, split_first};
+use decimal_numbers::{is_number, read_number};
 use ft_base::{Bytes, NoMemory};
 use std::alloc::Global;
 

@@ -9,7 +9,6 @@ mod numerals;
 mod options;
 mod reading;
 mod splitting;
-mod values;
 mod verbs;
 
 pub use arguments::{CallWords, call_words};

@@ -1,226 +1,159 @@
-use crate::{LimitName, Line, LineFault, Words, call_words, read_line};
-use ft_base::{Bytes, Par, Signature};
+use crate::{CallWords, Line, LineFault, Words, call_words, read_line};
+use ft_base::{Par, Signature};
 use std::alloc::Global;
+use std::process::Abort;
 use std::test::Fail;
 
-/// What a line reads as, as a text that a table can hold.
-fn shown(alloc: Global, text: &[u8]) -> Result<&'static str, LineFault> {
-    match read_line(alloc, text) {
-        Ok(None) => Ok("nothing"),
-        Ok(Some(Line::Hosts(_))) => Ok("hosts"),
-        Ok(Some(Line::Group { name: _, member: _ })) => Ok("group"),
-        Ok(Some(Line::Client(_))) => Ok("client"),
-        Ok(
-            Some(
-                Line::Call {
-                    client: _,
-                    group: _,
-                    op: _,
-                    words: _,
-                },
-            ),
-        ) => Ok("call"),
-        Ok(Some(Line::Deliver(_))) => Ok("deliver"),
-        Ok(Some(Line::Tick(_))) => Ok("tick"),
-        Ok(Some(Line::Show(_))) => Ok("show"),
-        Ok(Some(Line::Inject { host: _, bytes: _ })) => Ok("inject"),
-        Err(fault) => Err(fault),
+fn form(line: &Line) -> &'static [u8] {
+    match line {
+        Line::Hosts(_) => b"hosts",
+        Line::Group { name: _, member: _ } => b"group",
+        Line::Client(_) => b"client",
+        Line::Call {
+            client: _,
+            group: _,
+            op: _,
+            words: _,
+        } => b"call",
+        Line::Deliver(_) => b"deliver",
+        Line::Tick(_) => b"tick",
+        Line::Show(_) => b"show",
+        Line::Inject { host: _, bytes: _ } => b"inject",
     }
 }
 
-fn shown_text(alloc: Global, text: &str) -> Result<&'static str, LineFault> {
-    shown(alloc, text.as_bytes())
+/// The first word of a line's form, or why the line is refused.
+fn shown(alloc: Global, line: &[u8]) -> &'static [u8] {
+    match read_line(alloc, line) {
+        Ok(None) => b"nothing",
+        Ok(Some(line)) => form(&line),
+        Err(fault) => fault.text(),
+    }
 }
 
-const LINES: [(&str, Result<&str, LineFault>); 82] = [
-    ("", Ok("nothing")),
-    (" \t\r", Ok("nothing")),
-    ("# frob", Ok("nothing")),
-    ("\r #frob", Ok("nothing")),
-    ("hosts 7", Ok("hosts")),
-    ("hosts\t0007\r", Ok("hosts")),
-    ("hosts 99999999999999999999", Ok("hosts")),
-    ("hosts 099999999999999999999", Err(LineFault::Syntax)),
-    ("hosts 0", Err(LineFault::Syntax)),
-    ("hosts", Err(LineFault::Syntax)),
-    ("hosts 1 2", Err(LineFault::Syntax)),
-    ("hosts -1", Err(LineFault::Syntax)),
-    ("hosts +1", Err(LineFault::Syntax)),
-    ("Hosts 1", Err(LineFault::Syntax)),
-    ("group g1 account cold 0", Ok("group")),
-    ("group g account cold 99999999999999999999", Ok("group")),
-    ("group gX account cold x", Err(LineFault::Syntax)),
-    ("group g account cold", Err(LineFault::Later)),
-    ("group g account cold 0 00", Err(LineFault::Later)),
-    ("group g store cold 0", Err(LineFault::Later)),
-    ("group g queue active", Err(LineFault::Later)),
-    ("group g account warm 0", Err(LineFault::Later)),
-    ("group g store warm x", Err(LineFault::Syntax)),
-    ("group 1g store cold 0", Err(LineFault::Syntax)),
-    ("group g frob cold 0", Err(LineFault::Syntax)),
-    ("group g account hot 0", Err(LineFault::Syntax)),
-    ("group g account", Err(LineFault::Syntax)),
-    ("client c-6.x_Z", Ok("client")),
-    ("client c-8.x_Z \t ", Ok("client")),
-    ("client _c", Err(LineFault::Syntax)),
-    ("client c/d", Err(LineFault::Syntax)),
-    ("client", Err(LineFault::Syntax)),
-    ("client a b", Err(LineFault::Syntax)),
-    ("call c0 bank deposit 700", Ok("call")),
-    ("call c0 bank deposit", Ok("call")),
-    ("call c0 bank nover=1 x y z", Ok("call")),
-    ("call c0 bank", Err(LineFault::Syntax)),
-    ("call 0c bank deposit 700", Err(LineFault::Syntax)),
-    ("call c0 - deposit 700", Err(LineFault::Syntax)),
-    ("deliver 1", Ok("deliver")),
-    ("deliver 0002", Ok("deliver")),
-    ("deliver 0", Err(LineFault::Syntax)),
-    ("deliver 00000000000000000001", Ok("deliver")),
-    ("deliver 000000000000000000001", Err(LineFault::Syntax)),
-    ("deliver 1 crash append", Err(LineFault::Later)),
-    ("deliver 1 crash execute", Err(LineFault::Later)),
-    ("deliver 0 crash append", Err(LineFault::Syntax)),
-    ("deliver 1 crash", Err(LineFault::Syntax)),
-    ("deliver 1 crash frob", Err(LineFault::Syntax)),
-    ("deliver 1 crash append 2", Err(LineFault::Syntax)),
-    ("tick 0", Ok("tick")),
-    ("tick 999", Ok("tick")),
-    ("tick 4294967295", Ok("tick")),
-    ("tick 4294967296", Err(LineFault::Syntax)),
-    ("tick", Err(LineFault::Syntax)),
-    ("show bank", Ok("show")),
-    ("show", Err(LineFault::Syntax)),
-    ("frob", Err(LineFault::Syntax)),
-    ("manage 0 x", Err(LineFault::Syntax)),
-    ("beat c g", Err(LineFault::Syntax)),
-    ("plain 0 00", Err(LineFault::Syntax)),
-    ("crash", Err(LineFault::Later)),
-    ("crash 1", Err(LineFault::Later)),
-    ("bind c1", Err(LineFault::Later)),
-    ("logfail g", Err(LineFault::Later)),
-    ("set frob", Err(LineFault::Later)),
-    ("inject 0 -", Ok("inject")),
-    ("inject 0 47494f50", Ok("inject")),
-    ("inject 63 47494F50", Ok("inject")),
-    ("inject 00000000000000000000 aF", Ok("inject")),
-    ("inject 000000000000000000000 00", Err(LineFault::Syntax)),
-    ("inject 0 4", Err(LineFault::Syntax)),
-    ("inject 0 47494f5", Err(LineFault::Syntax)),
-    ("inject 0 4g", Err(LineFault::Syntax)),
-    ("inject 0 0x00", Err(LineFault::Syntax)),
-    ("inject 0 --", Err(LineFault::Syntax)),
-    ("inject x 00", Err(LineFault::Syntax)),
-    ("inject -1 00", Err(LineFault::Syntax)),
-    ("inject 0", Err(LineFault::Syntax)),
-    ("inject", Err(LineFault::Syntax)),
-    ("inject 0 00 00", Err(LineFault::Syntax)),
-    ("Inject 0 00", Err(LineFault::Syntax)),
+// How lines read, with a bar between each two.
+const LINES: [(&str, &str); 11] = [
+    ("nothing", "| \t\r|# frob|\r #frob"),
+    ("hosts", "hosts 7|hosts\t0007\r|hosts 99999999999999999999"),
+    (
+        "group",
+        "group g1 account cold 0|group g account cold 99999999999999999999",
+    ),
+    ("client", "client c-6.x_Z|client c-8.x_Z \t "),
+    (
+        "call",
+        "call c0 bank deposit 700|call c0 bank deposit|call c0 bank nover=1 x y z",
+    ),
+    (
+        "deliver",
+        "deliver 1|deliver 0002|deliver 00000000000000000001",
+    ),
+    ("tick", "tick 0|tick 999|tick 4294967295"),
+    ("show", "show bank"),
+    (
+        "inject",
+        "inject 0 -|inject 0 47494f50|inject 63 47494F50|inject 00000000000000000000 aF",
+    ),
+    (
+        "later",
+        concat!(
+            "group g account cold|group g account cold 0 00|group g store cold 0|group g queue active|",
+            "group g account warm 0|deliver 1 crash append|deliver 1 crash execute|crash|crash 1|bind c1|",
+            "logfail g|set frob",
+        ),
+    ),
+    (
+        "syntax",
+        concat!(
+            "hosts 099999999999999999999|hosts 0|hosts|hosts 1 2|hosts -1|hosts +1|Hosts 1|",
+            "group gX account cold x|group g store warm x|group 1g store cold 0|group g frob cold 0|",
+            "group g account hot 0|group g account|client _c|client c/d|client|client a b|call c0 bank|",
+            "call 0c bank deposit 700|call c0 - deposit 700|deliver 0|deliver 000000000000000000001|",
+            "deliver 0 crash append|deliver 1 crash|deliver 1 crash frob|deliver 1 crash append 2|",
+            "tick 4294967296|tick|show|frob|manage 0 x|beat c g|plain 0 00|",
+            "inject 000000000000000000000 00|inject 0 4|inject 0 47494f5|inject 0 4g|inject 0 0x00|",
+            "inject 0 --|inject x 00|inject -1 00|inject 0|inject|inject 0 00 00|Inject 0 00",
+        ),
+    ),
 ];
 
-#[test]
-fn lines(rt: HostRuntime) -> Result<(), Fail> {
-    for (text, wanted) in LINES.iter() {
-        assert_eq!(rt; shown_text(rt.alloc(), *text), *wanted, "{text}");
-    }
-    Ok(())
-}
-
-// A line with a part that stands in it so many times.
-fn line_of(
-    alloc: Global,
-    start: &str,
-    part: &str,
-    count: usize,
-    end: &str,
-) -> Result<Vec<u8>, Fail> {
-    let mut line = Vec::new(alloc);
-    line.extend_from_slice(start.as_bytes())?;
+// A text, and a part behind it so many times.
+fn line_of(alloc: Global, start: &[u8], part: &[u8], count: usize) -> Result<Vec<u8>, Fail> {
+    let mut line = Vec::from_slice(alloc, start)?;
     for _ in 0..count {
-        line.extend_from_slice(part.as_bytes())?;
+        line.extend_from_slice(part)?;
     }
-    line.extend_from_slice(end.as_bytes())?;
     Ok(line)
 }
 
-// Lines, words and names at their limits, and one past them.
-const LONG_LINES: [(&str, &str, usize, &str, Result<&str, LineFault>); 26] = [
-    ("show g", " ", 4090, "", Ok("show")),
-    (
-        "show g",
-        " ",
-        4091,
-        "",
-        Err(LineFault::Limit(LimitName::Line)),
-    ),
-    ("#", "\r", 4095, "", Ok("nothing")),
-    ("#", "\r", 4096, "", Err(LineFault::Limit(LimitName::Line))),
-    ("", " ", 4096, "", Ok("nothing")),
-    ("", "frob ", 819, "", Err(LineFault::Syntax)),
-    ("crash", " x", 2045, "", Err(LineFault::Later)),
-    ("show ", "g", 64, "", Ok("show")),
-    ("show ", "g", 65, "", Err(LineFault::Syntax)),
-    ("client ", "c", 64, "", Ok("client")),
-    ("client ", "c", 65, "", Err(LineFault::Syntax)),
-    ("group ", "g", 64, " account cold 0", Ok("group")),
-    ("group ", "g", 65, " account cold 0", Err(LineFault::Syntax)),
-    ("group ", "g", 64, " store warm 0", Err(LineFault::Later)),
-    ("call ", "c", 64, " g op", Ok("call")),
-    ("call ", "c", 65, " g op", Err(LineFault::Syntax)),
-    ("call c ", "g", 64, " op", Ok("call")),
-    ("call c ", "g", 65, " op", Err(LineFault::Syntax)),
-    ("call c g ", "=", 255, "", Ok("call")),
-    ("call c g ", "=", 256, "", Err(LineFault::Syntax)),
-    ("call c g op", " w", 2042, "", Ok("call")),
-    ("call c g op ", "w", 4084, "", Ok("call")),
-    ("inject 0 ", "00", 2043, "", Ok("inject")),
-    ("inject 0 ", "00", 2043, "0", Err(LineFault::Syntax)),
-    ("deliver ", "0", 19, "1", Ok("deliver")),
-    ("deliver ", "0", 20, "1", Err(LineFault::Syntax)),
+/// The start of a line, a part and how often it stands there, and the end; how the line reads, and how with the part once
+/// more.
+type Limit = (
+    &'static str,
+    &'static str,
+    usize,
+    &'static str,
+    &'static str,
+    &'static str,
+);
+
+// Lines, words and names at their limits.
+const LIMITS: [Limit; 17] = [
+    ("show g", " ", 4090, "", "show", "limit line"),
+    ("#", "\r", 4095, "", "nothing", "limit line"),
+    ("", " ", 4096, "", "nothing", "limit line"),
+    ("", "frob ", 819, "", "syntax", "limit line"),
+    ("crash", " x", 2045, "", "later", "limit line"),
+    ("call c g op", " w", 2042, "", "call", "limit line"),
+    ("call c g op ", "w", 4084, "", "call", "limit line"),
+    ("inject 0 ", "00", 2043, "", "inject", "limit line"),
+    ("inject 0 0", "00", 2043, "", "syntax", "limit line"),
+    ("show ", "g", 64, "", "show", "syntax"),
+    ("client ", "c", 64, "", "client", "syntax"),
+    ("group ", "g", 64, " account cold 0", "group", "syntax"),
+    ("group ", "g", 64, " store warm 0", "later", "syntax"),
+    ("call ", "c", 64, " g op", "call", "syntax"),
+    ("call c ", "g", 64, " op", "call", "syntax"),
+    ("call c g ", "=", 255, "", "call", "syntax"),
+    ("deliver ", "0", 19, "1", "deliver", "syntax"),
 ];
 
+fn check_limit(rt: &impl Abort, alloc: Global, row: &Limit) -> Result<(), Fail> {
+    let (start, part, count, end, wanted, longer) = row;
+    let mut line = line_of(alloc, start.as_bytes(), part.as_bytes(), *count)?;
+    let mut more = line_of(alloc, line.as_slice(), part.as_bytes(), 1)?;
+    line.extend_from_slice(end.as_bytes())?;
+    more.extend_from_slice(end.as_bytes())?;
+    assert!(rt;
+        shown(alloc, line.as_slice()) == wanted.as_bytes(),
+        "{start} {count}"
+    );
+    assert!(rt;
+        shown(alloc, more.as_slice()) == longer.as_bytes(),
+        "{start} {count} + 1"
+    );
+    Ok(())
+}
+
 #[test]
-fn lengths(rt: HostRuntime) -> Result<(), Fail> {
-    for (start, part, count, end, wanted) in LONG_LINES.iter() {
-        let line = line_of(rt.alloc(), *start, *part, *count, *end)?;
-        assert_eq!(rt;
-            shown(rt.alloc(), line.as_slice()),
-            *wanted,
-            "{start} {count} {end}"
-        );
+fn lines(rt: HostRuntime) -> Result<(), Fail> {
+    for (wanted, texts) in LINES.iter() {
+        for text in texts.as_bytes().split(|byte| *byte == b'|') {
+            assert!(rt; shown(rt.alloc(), text) == wanted.as_bytes(), "{wanted}");
+        }
+    }
+    for row in LIMITS.iter() {
+        check_limit(&rt, rt.alloc(), row)?;
     }
     Ok(())
 }
 
-fn host_count(alloc: Global, text: &str) -> u64 {
-    match read_line(alloc, text.as_bytes()) {
-        Ok(Some(Line::Hosts(count))) => count,
-        _ => 0,
-    }
-}
-
-fn member(alloc: Global, text: &str) -> u64 {
-    match read_line(alloc, text.as_bytes()) {
-        Ok(Some(Line::Group { name: _, member })) => member,
-        _ => 0,
-    }
-}
-
-#[test]
-fn values(rt: HostRuntime) -> Result<(), Fail> {
-    assert_eq!(rt; host_count(rt.alloc(), "hosts 0064"), 64);
-    assert_eq!(rt;
-        host_count(rt.alloc(), "hosts 18446744073709551615"),
-        u64::MAX
-    );
-    assert_eq!(rt;
-        host_count(rt.alloc(), "hosts 18446744073709551616"),
-        u64::MAX
-    );
-    assert_eq!(rt; member(rt.alloc(), "group bank account cold 03"), 3);
-    Ok(())
-}
-
-const INJECTS: [(&str, u64, &[u8]); 5] = [
+// The number in a line, and its octets.
+const NUMBERS: [(&str, u64, &[u8]); 9] = [
+    ("hosts 0064", 64, b""),
+    ("hosts 18446744073709551615", u64::MAX, b""),
+    ("hosts 18446744073709551616", u64::MAX, b""),
+    ("group bank account cold 03", 3, b""),
     ("inject 0 -", 0, b""),
     ("inject 0 47494f50", 0, b"GIOP"),
     ("inject 0063 47494F50", 63, b"GIOP"),
@@ -228,144 +161,176 @@ const INJECTS: [(&str, u64, &[u8]); 5] = [
     ("inject 18446744073709551616 0102", u64::MAX, b"\x01\x02"),
 ];
 
-fn injected(alloc: Global, text: &str) -> Option<(u64, Bytes)> {
+fn has(alloc: Global, text: &str, wanted: u64, octets: &[u8]) -> bool {
     match read_line(alloc, text.as_bytes()) {
-        Ok(Some(Line::Inject { host, bytes })) => Some((host, bytes)),
-        _ => None,
+        Ok(Some(Line::Hosts(number))) => number == wanted,
+        Ok(Some(Line::Group { name: _, member })) => member == wanted,
+        Ok(Some(Line::Inject { host, bytes })) => host == wanted && bytes.bytes() == octets,
+        _ => false,
     }
 }
 
 #[test]
-fn injects(rt: HostRuntime) -> Result<(), Fail> {
-    for (text, number, octets) in INJECTS.iter() {
-        let (host, bytes) = injected(rt.alloc(), *text).ok_or("refused")?;
-        assert_eq!(rt; host, *number, "{text}");
-        assert_eq!(rt; bytes.bytes(), *octets, "{text}");
+fn numbers(rt: HostRuntime) {
+    for (text, wanted, octets) in NUMBERS.iter() {
+        assert!(rt; has(rt.alloc(), *text, *wanted, *octets), "{text}");
     }
-    Ok(())
 }
 
 /// What the words after `call c g op` say: the parameters, `ret`, `exp` and whether it is versioned.
 type Row = (
+    Option<Par>,
+    Option<Par>,
     &'static str,
-    Option<Par>,
-    Option<Par>,
-    Option<(&'static [u8], Option<i32>, Option<u64>, bool)>,
+    &'static [u8],
+    Option<i32>,
+    Option<u64>,
+    bool,
 );
 
 const NUMBER: Option<Par> = Some(Par::I64);
 
-const CALLS: [Row; 36] = [
+const TEXT: Option<Par> = Some(Par::Text);
+
+const OCTETS: Option<Par> = Some(Par::Octets);
+
+const CALLS: [Row; 13] = [
     (
-        "call c g op 700",
         NUMBER,
         None,
-        Some((b"\0\0\0\0\0\0\x02\xbc", None, None, true)),
+        "700",
+        b"\0\0\0\0\0\0\x02\xbc",
+        None,
+        None,
+        true,
     ),
     (
-        "call c g op -007",
         NUMBER,
         None,
-        Some((b"\xff\xff\xff\xff\xff\xff\xff\xf9", None, None, true)),
+        "-007",
+        b"\xff\xff\xff\xff\xff\xff\xff\xf9",
+        None,
+        None,
+        true,
     ),
+    (NUMBER, None, "-0", b"\0\0\0\0\0\0\0\0", None, None, true),
     (
-        "call c g op -0",
         NUMBER,
         None,
-        Some((b"\0\0\0\0\0\0\0\0", None, None, true)),
+        "9223372036854775807",
+        b"\x7f\xff\xff\xff\xff\xff\xff\xff",
+        None,
+        None,
+        true,
     ),
     (
-        "call c g op 9223372036854775807",
         NUMBER,
         None,
-        Some((b"\x7f\xff\xff\xff\xff\xff\xff\xff", None, None, true)),
+        "-9223372036854775808",
+        b"\x80\0\0\0\0\0\0\0",
+        None,
+        None,
+        true,
     ),
     (
-        "call c g op -9223372036854775808",
         NUMBER,
         None,
-        Some((b"\x80\0\0\0\0\0\0\0", None, None, true)),
-    ),
-    ("call c g op 9223372036854775808", NUMBER, None, None),
-    ("call c g op -9223372036854775809", NUMBER, None, None),
-    ("call c g op +5", NUMBER, None, None),
-    ("call c g op -", NUMBER, None, None),
-    ("call c g op", NUMBER, None, None),
-    ("call c g op 1 2", NUMBER, None, None),
-    ("call c g op ret=1 5", NUMBER, None, None),
-    (
-        "call c g op 5 nover ret=-2147483648 exp=18446744073709551615",
-        NUMBER,
-        None,
-        Some((
-            b"\0\0\0\0\0\0\0\x05",
-            Some(-2147483648),
-            Some(u64::MAX),
-            false,
-        )),
+        "5 nover ret=-2147483648 exp=18446744073709551615",
+        b"\0\0\0\0\0\0\0\x05",
+        Some(i32::MIN),
+        Some(u64::MAX),
+        false,
     ),
     (
-        "call c g op exp=0 ret=2147483647",
         None,
         None,
-        Some((b"", Some(2147483647), Some(0), true)),
+        "exp=0 ret=2147483647",
+        b"",
+        Some(i32::MAX),
+        Some(0),
+        true,
     ),
-    ("call c g op", None, None, Some((b"", None, None, true))),
-    ("call c g op 5", None, None, None),
-    ("call c g op ret=1 ret=1", None, None, None),
-    ("call c g op exp=1 exp=2", None, None, None),
-    ("call c g op nover nover", None, None, None),
-    ("call c g op ret=2147483648", None, None, None),
-    ("call c g op ret=-2147483649", None, None, None),
-    ("call c g op ret=", None, None, None),
-    ("call c g op exp=-1", None, None, None),
-    ("call c g op exp=18446744073709551616", None, None, None),
-    ("call c g op Nover", None, None, None),
+    (None, None, "", b"", None, None, true),
     (
-        "call c g op k1 0A",
-        Some(Par::Text),
-        Some(Par::Octets),
-        Some((b"\0\0\0\x03k1\0\0\0\0\0\x01\x0a", None, None, true)),
-    ),
-    (
-        "call c g op ret=1 01",
-        Some(Par::Text),
-        Some(Par::Octets),
-        Some((b"\0\0\0\x06ret=1\0\0\0\0\0\0\x01\x01", None, None, true)),
-    ),
-    (
-        "call c g op k -",
-        Some(Par::Text),
-        Some(Par::Octets),
-        Some((b"\0\0\0\x02k\0\0\0\0\0\0\0", None, None, true)),
-    ),
-    ("call c g op k 0", Some(Par::Text), Some(Par::Octets), None),
-    ("call c g op k 0g", Some(Par::Text), Some(Par::Octets), None),
-    (
-        "call c g op k\0 00",
-        Some(Par::Text),
-        Some(Par::Octets),
+        TEXT,
+        OCTETS,
+        "k1 0A",
+        b"\0\0\0\x03k1\0\0\0\0\0\x01\x0a",
         None,
+        None,
+        true,
     ),
-    ("call c g op k", Some(Par::Text), Some(Par::Octets), None),
     (
-        "call c g op 4294967295 1",
+        TEXT,
+        OCTETS,
+        "ret=1 01",
+        b"\0\0\0\x06ret=1\0\0\0\0\0\0\x01\x01",
+        None,
+        None,
+        true,
+    ),
+    (
+        TEXT,
+        OCTETS,
+        "k -",
+        b"\0\0\0\x02k\0\0\0\0\0\0\0",
+        None,
+        None,
+        true,
+    ),
+    (
         Some(Par::U32),
         NUMBER,
-        Some((
-            b"\xff\xff\xff\xff\0\0\0\0\0\0\0\0\0\0\0\x01",
-            None,
-            None,
-            true,
-        )),
+        "4294967295 1",
+        b"\xff\xff\xff\xff\0\0\0\0\0\0\0\0\0\0\0\x01",
+        None,
+        None,
+        true,
     ),
-    ("call c g op 4294967296", Some(Par::U32), None, None),
-    ("call c g op -1", Some(Par::U32), None, None),
-    ("call c g op true", Some(Par::Bool), None, None),
+    (
+        OCTETS,
+        None,
+        "00 ret=1",
+        b"\0\0\0\x01\0",
+        Some(1),
+        None,
+        true,
+    ),
 ];
 
-fn words_of(alloc: Global, text: &[u8]) -> Words {
-    match read_line(alloc, text) {
+// Words that say nothing where these are the parameters, with a bar between each two.
+const REFUSED: [(Option<Par>, Option<Par>, &str); 5] = [
+    (
+        NUMBER,
+        None,
+        "9223372036854775808|-9223372036854775809|+5|-||1 2|ret=1 5",
+    ),
+    (
+        None,
+        None,
+        concat!(
+            "5|ret=1 ret=1|exp=1 exp=2|nover nover|ret=2147483648|ret=-2147483649|ret=|exp=-1|",
+            "exp=18446744073709551616|Nover",
+        ),
+    ),
+    (TEXT, OCTETS, "k 0|k 0g|k\0 00|k"),
+    (Some(Par::U32), None, "4294967296|-1"),
+    (Some(Par::Bool), None, "true"),
+];
+
+// What these words say behind an operation with these parameters.
+fn said(
+    alloc: Global,
+    first: Option<Par>,
+    second: Option<Par>,
+    line: &[u8],
+) -> Result<CallWords, LineFault> {
+    let signature = Signature {
+        first,
+        second,
+        gives: None,
+    };
+    match read_line(alloc, line) {
         Ok(
             Some(
                 Line::Call {
@@ -375,39 +340,38 @@ fn words_of(alloc: Global, text: &[u8]) -> Words {
                     words,
                 },
             ),
-        ) => words,
-        _ => Words::from_vec(Vec::new(alloc)),
+        ) => call_words(alloc, Some(signature), &words),
+        _ => Err(LineFault::Later),
     }
 }
 
-#[test]
-fn calls(rt: HostRuntime) -> Result<(), Fail> {
-    for (text, first, second, wanted) in CALLS.iter() {
-        let words = words_of(rt.alloc(), text.as_bytes());
-        let signature = Signature {
-            first: *first,
-            second: *second,
-            gives: None,
-        };
-        match call_words(rt.alloc(), Some(signature), &words) {
-            Err(fault) => {
-                assert_eq!(rt; fault, LineFault::Syntax, "{text}");
-                assert!(rt; wanted.is_none(), "{text}");
-            }
-            Ok(call) => {
-                let (args, retention, expiration, versioned) = (*wanted).ok_or("refused")?;
-                assert_eq!(rt; call.args.bytes(), args, "{text}");
-                assert_eq!(rt; call.retention.map(|id| id.0), retention, "{text}");
-                assert_eq!(rt; call.expiration.map(|tick| tick.0), expiration, "{text}");
-                assert_eq!(rt; call.versioned, versioned, "{text}");
-            }
+const CALL: &str = "call c g op ";
+
+fn check_call(rt: &impl Abort, alloc: Global, row: &Row) -> Result<(), Fail> {
+    let (first, second, words, args, retention, expiration, versioned) = row;
+    let line = line_of(alloc, CALL.as_bytes(), words.as_bytes(), 1)?;
+    match said(alloc, *first, *second, line.as_slice()) {
+        Ok(call) => {
+            assert_eq!(rt; call.args.bytes(), *args, "{words}");
+            assert_eq!(rt; call.retention.map(|id| id.0), *retention, "{words}");
+            assert_eq!(rt; call.expiration.map(|tick| tick.0), *expiration, "{words}");
+            assert_eq!(rt; call.versioned, *versioned, "{words}");
         }
+        Err(_) => assert!(rt; false, "{words}"),
     }
-    let none = Words::from_vec(Vec::new(rt.alloc()));
-    match call_words(rt.alloc(), None, &none) {
-        Ok(call) => assert!(rt; call.args.bytes().is_empty()),
-        Err(_) => assert!(rt; false),
-    }
+    Ok(())
+}
+
+fn check_refused(
+    rt: &impl Abort,
+    alloc: Global,
+    first: Option<Par>,
+    second: Option<Par>,
+    words: &[u8],
+) -> Result<(), Fail> {
+    let line = line_of(alloc, CALL.as_bytes(), words, 1)?;
+    let refused = said(alloc, first, second, line.as_slice());
+    assert_eq!(rt; refused.err(), Some(LineFault::Syntax));
     Ok(())
 }
 
@@ -419,19 +383,26 @@ const LONG_ARGUMENTS: [(Par, &str, usize, usize); 2] = [
 ];
 
 #[test]
-fn long_arguments(rt: HostRuntime) -> Result<(), Fail> {
+fn calls(rt: HostRuntime) -> Result<(), Fail> {
+    for row in CALLS.iter() {
+        check_call(&rt, rt.alloc(), row)?;
+    }
+    for (first, second, texts) in REFUSED.iter() {
+        for words in texts.as_bytes().split(|byte| *byte == b'|') {
+            check_refused(&rt, rt.alloc(), *first, *second, words)?;
+        }
+    }
     for (par, part, count, length) in LONG_ARGUMENTS.iter() {
-        let line = line_of(rt.alloc(), "call c g op ", *part, *count, "")?;
-        let words = words_of(rt.alloc(), line.as_slice());
-        let signature = Signature {
-            first: Some(*par),
-            second: None,
-            gives: None,
-        };
-        match call_words(rt.alloc(), Some(signature), &words) {
+        let line = line_of(rt.alloc(), CALL.as_bytes(), part.as_bytes(), *count)?;
+        match said(rt.alloc(), Some(*par), None, line.as_slice()) {
             Ok(call) => assert_eq!(rt; call.args.bytes().len(), *length),
             Err(_) => assert!(rt; false),
         }
+    }
+    let none = Words::from_vec(Vec::new(rt.alloc()));
+    match call_words(rt.alloc(), None, &none) {
+        Ok(call) => assert!(rt; call.args.bytes().is_empty()),
+        Err(_) => assert!(rt; false),
     }
     Ok(())
 }

@@ -1,37 +1,42 @@
--- What a value in canonical form is worth.
-use Rattle.std.specs.Prelude.{ℕ, ◌-◌, ◌==◌, Bool, ℤ, pos, List, length, take, drop, slice_index, Option, Some, None}
-use Rattle.std.specs.Int.{cast_signed, w64}
-use Rattle.byteorder.specs.Endian.{big_number}
+-- What a result's value is as it is printed.
+use Rattle.std.specs.Prelude.{◌≡◌, ℕ, pos, List, [], ◌∷◌, Option, Some, None, Ok, Err}
+use Rattle.ft_base.specs.Canonical.{one_of, values_at, AreOf}
 use Rattle.ft_base.specs.declared.requests.Par.{Par}
-use Rattle.ft_base.specs.declared.requests.Par.TheVariants as pars
+use Rattle.ft_base.specs.declared.values.Value.{Value}
+use Rattle.ft_base.specs.declared.values.Value.TheVariants as values
+use Rattle.cdr_codec.specs.Arguments.{param}
+use Rattle.cdr_codec.specs.Reading.{Read, reader_at}
+use Rattle.cdr_codec.specs.declared.faults.CdrWhy.{CdrWhy}
+use Rattle.cdr_codec.specs.declared.orders.Order.TheVariants.{Big}
 use Rattle.ft_report.specs.declared.outcomes.Worth.{Worth}
 use Rattle.ft_report.specs.declared.outcomes.Worth.TheVariants as worths
 
--- the number in eight bytes, with a sign
-abbrev pub long_in : List ℕ → ℤ
-long_in value = cast_signed w64 (big_number 8 value)
+-- a value: a text as its octets
+abbrev pub printed_value : Value → Worth
+printed_value (values.I64 number) = worths.Number number
+printed_value (values.U32 number) = worths.Number (pos number)
+printed_value (values.Bool flag) = worths.Flag flag
+printed_value (values.Text text) = worths.Octets text
+printed_value (values.Octets octets) = worths.Octets octets
 
--- the number in four bytes
-abbrev pub unsigned_in : List ℕ → ℤ
-unsigned_in value = pos (big_number 4 value)
+-- the value that was read
+abbrev pub worth_read : Read CdrWhy Value → Worth
+worth_read (Ok found) = printed_value found.0
+worth_read (Err fault) = worths.Void
 
--- whether the one byte is 1
-abbrev pub flag_in : List ℕ → Bool
-flag_in value = slice_index value 0 == 1
+-- the value that is read from its canonical form, of the type that an operation gives; void where it gives none
+unfoldable pub worth_in : Option Par → List ℕ → Worth
+worth_in None bytes = worths.Void
+worth_in (Some par) bytes = worth_read ((param par).read (reader_at Big 0 bytes))
 
--- the text between its length and its NUL
-abbrev pub text_in : List ℕ → List ℕ
-text_in value = take (length value - 5) (drop 4 value)
+-- the one value, if there is one
+abbrev pub worth_of : List Value → Worth
+worth_of [] = worths.Void
+worth_of (value ∷ rest) = printed_value value
 
--- the octets behind their count
-abbrev pub octets_in : List ℕ → List ℕ
-octets_in value = drop 4 value
-
--- what a value of the type that an operation gives is worth
-abbrev pub worth_in : Option Par → List ℕ → Worth
-worth_in None value = worths.Void
-worth_in (Some pars.I64) value = worths.Number (long_in value)
-worth_in (Some pars.U32) value = worths.Number (unsigned_in value)
-worth_in (Some pars.Bool) value = worths.Flag (flag_in value)
-worth_in (Some pars.Text) value = worths.Octets (text_in value)
-worth_in (Some pars.Octets) value = worths.Octets (octets_in value)
+-- the bytes are the canonical form of a value, of the type that an operation gives, and this is what is printed of it
+pub record IsWorth (gives : Option Par) (bytes : List ℕ) (printed : Worth) : Type 0 where
+  pub values : List Value
+  pub typed : AreOf (one_of gives) values
+  pub form : bytes ≡ values_at 0 values
+  pub is : printed ≡ worth_of values

@@ -1,10 +1,9 @@
-ghost use Rattle.std.specs.Prelude.{◌≡◌, ◌∷◌, [], None, Some, IfOk};
+ghost use Rattle.std.specs.Prelude.{◌≡◌, ◌≤◌, ◌∷◌, [], Some, length, IfOk};
 ghost use Rattle.ft_base.specs.Canonical.{IsCanonical, one_of};
-ghost use Rattle.ft_base.specs.declared.requests.Par.TheVariants.{I64, U32, Bool, Text, Octets};
-ghost use Rattle.ft_report.specs.Worth.{flag_in, long_in, octets_in, text_in, unsigned_in, worth_in};
+ghost use Rattle.ft_report.specs.Worth.{printed_value, worth_in, IsWorth};
 
-use byteorder::{BigEndian, ByteOrder};
-use ft_base::{Bytes, Name, NoMemory, Par, Version};
+use cdr_codec::{CdrReader, FieldFault, Order, canonical_forms_are_read, read_value};
+use ft_base::{Bytes, Name, NoMemory, Par, RESULT_LIMIT, Value, Version};
 use std::alloc::Global;
 use sys_faults::SysFault;
 
@@ -18,7 +17,7 @@ pub enum Worth {
 }
 
 /// What a request came to, as it is printed.
-#[derive(Drop)]
+#[derive(Debug, Drop)]
 pub enum ReportOutcome {
     Value(Worth),
     User(Name),
@@ -78,58 +77,42 @@ impl ReportOutcome {
     }
 }
 
-fn long_of(value: &[u8]) -> i64
-    requires { IsCanonical (I64 ∷ []) value.now }
-    ensures { result ≡ long_in value.now }
+fn printed_value(value: Value) -> Worth
+    ensures { result ≡ printed_value value }
 {
-    BigEndian::read_i64(value)
+    match value {
+        Value::I64(number) => Worth::Number(number),
+        Value::U32(number) => Worth::Number(i64::from(number)),
+        Value::Bool(flag) => Worth::Flag(flag),
+        Value::Text(text) => Worth::Octets(text),
+        Value::Octets(octets) => Worth::Octets(octets),
+    }
 }
 
-fn unsigned_of(value: &[u8]) -> i64
-    requires { IsCanonical (U32 ∷ []) value.now }
-    ensures { result ≡ unsigned_in value.now }
+fn worth_of_one(alloc: Global, par: Par, bytes: &[u8]) -> Result<Worth, NoMemory>
+    requires canonical { IsCanonical (par ∷ []) bytes.now }
+    requires short { length bytes.now ≤ RESULT_LIMIT }
+    ensures value { IfOk result (λ printed. printed ≡ worth_in (Some par) bytes.now) }
+    ensures worth { IfOk result (λ printed. IsWorth (Some par) bytes.now printed) }
 {
-    i64::from(BigEndian::read_u32(value))
-}
-
-fn flag_of(value: &[u8]) -> bool
-    requires { IsCanonical (Bool ∷ []) value.now }
-    ensures { result ≡ flag_in value.now }
-{
-    value[0] == 1
-}
-
-fn text_of(value: &[u8]) -> &[u8]
-    requires { IsCanonical (Text ∷ []) value.now }
-    ensures { result.now ≡ text_in value.now }
-{
-    &value[4..value.len() - 1]
-}
-
-fn octets_of(value: &[u8]) -> &[u8]
-    requires { IsCanonical (Octets ∷ []) value.now }
-    ensures { result.now ≡ octets_in value.now }
-{
-    &value[4..]
+    canonical_forms_are_read();
+    let mut reader = CdrReader::new(Order::Big, 0, bytes);
+    match read_value(alloc, par, &mut reader) {
+        Ok(value) => Ok(printed_value(value)),
+        Err(FieldFault::NoMemory) => Err(NoMemory),
+        Err(FieldFault::Bad(_)) => unreachable!(),
+    }
 }
 
 /// A result's value, which is in canonical form, as it is printed: a text as its octets.
 pub fn worth_of(alloc: Global, gives: Option<Par>, value: &Bytes) -> Result<Worth, NoMemory>
-    requires { IsCanonical (one_of gives) value.now }
-    ensures { IfOk result (λ worth. worth ≡ worth_in gives value.now) }
+    requires canonical { IsCanonical (one_of gives) value.now }
+    requires short { length value.now ≤ RESULT_LIMIT }
+    ensures value { IfOk result (λ printed. printed ≡ worth_in gives value.now) }
+    ensures worth { IfOk result (λ printed. IsWorth gives value.now printed) }
 {
     match gives {
         None => Ok(Worth::Void),
-        Some(Par::I64) => Ok(Worth::Number(long_of(value.bytes()))),
-        Some(Par::U32) => Ok(Worth::Number(unsigned_of(value.bytes()))),
-        Some(Par::Bool) => Ok(Worth::Flag(flag_of(value.bytes()))),
-        Some(Par::Text) => {
-            let octets = Bytes::of(alloc, text_of(value.bytes()))?;
-            Ok(Worth::Octets(octets))
-        }
-        Some(Par::Octets) => {
-            let octets = Bytes::of(alloc, octets_of(value.bytes()))?;
-            Ok(Worth::Octets(octets))
-        }
+        Some(par) => worth_of_one(alloc, par, value.bytes()),
     }
 }

@@ -15,7 +15,7 @@ pub enum Role {
 }
 
 /// One line of output.
-#[derive(Drop)]
+#[derive(Debug, Drop)]
 pub enum ReportLine {
     /// A group was made.
     Group {
@@ -99,7 +99,7 @@ pub enum ReportLine {
 }
 
 /// The lines of one event, in order.
-#[derive(Drop)]
+#[derive(Debug, Drop)]
 pub struct ReportLines {
     lines: Vec<ReportLine>,
 }

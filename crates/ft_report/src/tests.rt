@@ -1,11 +1,13 @@
-ghost use Rattle.std.specs.Prelude.{◌<◌, ◌^◌, ◌∷◌, [], length, IfOk};
-ghost use Rattle.ft_base.specs.Canonical.{IsCanonical};
-ghost use Rattle.ft_base.specs.declared.requests.Par.TheVariants as pars;
+ghost use Rattle.std.specs.Prelude.{◌<◌, ◌^◌, length};
+ghost use Rattle.ft_base.specs.Canonical.{HasSpelling};
 
 use crate::outcomes::{ReportOutcome, Worth, worth_of};
 use crate::rendering::{render, render_all};
 use crate::reports::{ReportLine, ReportLines, Role};
-use ft_base::{Bytes, Decision, GroupId, HostNo, Members, Name, NoMemory, Par, Tick, Version};
+use cdr_codec::canonical;
+use ft_base::{
+    Bytes, Decision, GroupId, HostNo, Members, Name, NoMemory, RESULT_LIMIT, Tick, Value, Version,
+};
 use giop_messages::Why;
 use std::alloc::Global;
 use sys_faults::{Completed, SysFault, SysKind};
@@ -602,51 +604,35 @@ fn long_lines(rt: HostRuntime) -> Result<(), NoMemory> {
     Ok(())
 }
 
-fn canonical_text(alloc: Global) -> Result<Bytes, NoMemory>
-    ensures { IfOk result (λ bytes. IsCanonical (pars.Text ∷ []) bytes) }
+// Whether a value, in canonical form, is printed so in a line.
+fn is_printed(alloc: Global, value: &Value, want: &str) -> Result<bool, NoMemory>
+    requires { HasSpelling value.now }
 {
-    let bytes = Bytes::of(alloc, b"\x00\x00\x00\x03ok\x00")?;
-    Ok(bytes)
-}
-
-fn canonical_octets(alloc: Global) -> Result<Bytes, NoMemory>
-    ensures { IfOk result (λ bytes. IsCanonical (pars.Octets ∷ []) bytes) }
-{
-    let bytes = Bytes::of(alloc, b"\x00\x00\x00\x03ok\x00")?;
-    Ok(bytes)
-}
-
-fn canonical_number(alloc: Global) -> Result<Bytes, NoMemory>
-    ensures { IfOk result (λ bytes. IsCanonical (pars.U32 ∷ []) bytes) }
-{
-    let bytes = Bytes::of(alloc, b"\xff\xff\xff\xff")?;
-    Ok(bytes)
-}
-
-fn canonical_flag(alloc: Global) -> Result<Bytes, NoMemory>
-    ensures { IfOk result (λ bytes. IsCanonical (pars.Bool ∷ []) bytes) }
-{
-    let bytes = Bytes::of(alloc, b"\x01")?;
-    Ok(bytes)
+    let form = canonical(alloc, std::slice::from_ref(value))?;
+    if form.bytes().len() > RESULT_LIMIT {
+        return Ok(false);
+    }
+    let worth = worth_of(alloc, Some(value.par()), &form)?;
+    let line = done(alloc, 1, ReportOutcome::Value(worth))?;
+    let bytes = render(alloc, &line)?;
+    Ok(bytes.bytes() == want.as_bytes())
 }
 
 #[test]
 fn values_of_each_type(rt: HostRuntime) -> Result<(), NoMemory> {
     let alloc = rt.alloc();
-    let number = canonical_number(alloc)?;
-    let number = worth_of(alloc, Some(Par::U32), &number)?.copy(alloc)?;
-    assert!(rt; matches!(&number, Worth::Number(4_294_967_295)));
-    let flag = canonical_flag(alloc)?;
-    let flag = worth_of(alloc, Some(Par::Bool), &flag)?.copy(alloc)?;
-    assert!(rt; matches!(&flag, Worth::Flag(true)));
-    let text = canonical_text(alloc)?;
-    let text = worth_of(alloc, Some(Par::Text), &text)?;
-    assert!(rt; matches!(&text, Worth::Octets(octets) if octets.bytes() == b"ok".as_slice()));
-    let octets = canonical_octets(alloc)?;
-    let octets = worth_of(alloc, Some(Par::Octets), &octets)?;
-    let copied = ReportOutcome::Value(octets).copy(alloc)?;
+    let text = Value::Text(Bytes::of(alloc, b"ok")?);
+    let octets = Value::Octets(Bytes::of(alloc, b"ok\x00")?);
+    assert!(rt; is_printed(alloc, &Value::I64(-2), "done ann 1 value -2\n")?);
     assert!(rt;
-        matches!(&copied, ReportOutcome::Value(Worth::Octets(octets)) if octets.bytes() == b"ok\x00".as_slice())
+        is_printed(
+            alloc,
+            &Value::U32(u32::MAX),
+            "done ann 1 value 4294967295\n"
+        )?
     );
+    assert!(rt; is_printed(alloc, &Value::Bool(false), "done ann 1 value false\n")?);
+    assert!(rt; is_printed(alloc, &text, "done ann 1 value 6f6b\n")?);
+    assert!(rt; is_printed(alloc, &octets, "done ann 1 value 6f6b00\n")?);
     Ok(())
 }

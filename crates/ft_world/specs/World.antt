@@ -3,10 +3,12 @@ use Rattle.std.specs.Prelude.{ℕ, pos, ◌+◌, ◌-◌, ◌^◌, ◌==◌, not
 use Rattle.std.specs.List.{list_all, list_any}
 use Rattle.std.specs.Str.{bytes_eq}
 use Rattle.ft_base.specs.Journal.{after}
+use Rattle.ft_base.specs.declared.limits.TheConstants.{HOST_LIMIT}
 use Rattle.ft_base.specs.declared.requests.Key.{Key}
 use Rattle.ft_base.specs.declared.numbers.Retention.{Retention}
 use Rattle.ft_base.specs.declared.numbers.Tick.{Tick}
 use Rattle.ft_base.specs.declared.numbers.Version.{Version}
+use Rattle.ft_base.specs.declared.views.TheConstants.{MEMBER_LIMIT}
 use Rattle.fault_script.specs.Arguments.{call_words_of}
 use Rattle.fault_script.specs.declared.lines.LimitName.TheVariants as limits
 use Rattle.fault_script.specs.declared.lines.LineFault.{LineFault}
@@ -19,6 +21,7 @@ use Rattle.group_core.specs.Servant.{machine, opening}
 use Rattle.group_core.specs.Group.{Group, Served, serve}
 use Rattle.ft_world.specs.Printed.{shown}
 use Rattle.ft_world.specs.declared.clients.Client.{Client}
+use Rattle.ft_world.specs.declared.limits.TheConstants.{CLIENT_LIMIT, DEFAULT_LIFE, ENTRY_LIMIT, GROUP_LIMIT, MESSAGE_LIMIT}
 use Rattle.ft_world.specs.declared.messages.Attempt.{Attempt}
 use Rattle.ft_world.specs.declared.messages.Reply.{Reply}
 use Rattle.ft_world.specs.declared.messages.Message.{Message}
@@ -75,7 +78,7 @@ totals_of w = record {
 
 abbrev pub total_causes : Totals → List Cause
 total_causes t =
-    cause (nat_lt 262144 t.entries) (Limit limits.Entries) ∷ cause (nat_lt 262144 t.messages) (Limit limits.Messages)
+    cause (nat_lt ENTRY_LIMIT t.entries) (Limit limits.Entries) ∷ cause (nat_lt MESSAGE_LIMIT t.messages) (Limit limits.Messages)
     ∷ cause (nat_lt (2 ^ 30) t.bytes) (Limit limits.Bytes) ∷ cause (nat_lt 262144 t.faults) (Limit limits.Faults) ∷ []
 
 -- a line after which a total is too great is refused, and its servant calls count
@@ -108,7 +111,7 @@ is_named w name =
 
 -- `hosts N`
 abbrev pub hosts_causes : World → ℕ → List Cause
-hosts_causes w count = cause (nat_lt 0 (length w.hosts)) Again ∷ cause (nat_lt 64 count) (Limit limits.Hosts) ∷ []
+hosts_causes w count = cause (nat_lt 0 (length w.hosts)) Again ∷ cause (nat_lt HOST_LIMIT count) (Limit limits.Hosts) ∷ []
 
 abbrev pub with_hosts : World → ℕ → World
 with_hosts w count = record w { hosts = replicate count 0 }
@@ -127,8 +130,8 @@ stands_twice (h ∷ hs) = if list_any (λ g. g == h) hs then true else stands_tw
 abbrev pub group_causes : World → List ℕ → List ℕ → List Cause
 group_causes w name members =
     cause (not (list_all (is_there w) members)) Unknown ∷ cause (is_named w name) Again
-    ∷ cause (stands_twice members) Again ∷ cause (nat_le 256 (length w.groups)) (Limit limits.Groups)
-    ∷ cause (nat_lt 16 (length members)) (Limit limits.Members) ∷ []
+    ∷ cause (stands_twice members) Again ∷ cause (nat_le GROUP_LIMIT (length w.groups)) (Limit limits.Groups)
+    ∷ cause (nat_lt MEMBER_LIMIT (length members)) (Limit limits.Members) ∷ []
 
 abbrev pub new_group : List ℕ → ℕ → Group
 new_group name host = record { name = name; host = host; journal = []; position = 0; time = 0 }
@@ -150,7 +153,7 @@ abbrev pub new_client : List ℕ → Client
 new_client name = record { name = name; started = 0; numbered = 0; waiting = None }
 
 abbrev pub client_causes : World → List ℕ → List Cause
-client_causes w name = cause (is_named w name) Again ∷ cause (nat_le 1024 (length w.clients)) (Limit limits.Clients) ∷ []
+client_causes w name = cause (is_named w name) Again ∷ cause (nat_le CLIENT_LIMIT (length w.clients)) (Limit limits.Clients) ∷ []
 
 abbrev pub with_client : World → List ℕ → World
 with_client w name = record w { clients = w.clients ++ new_client name ∷ [] }
@@ -168,7 +171,7 @@ numbered_after c None = c.numbered + 1
 numbered_after c (Some retention) = c.numbered
 
 abbrev pub expiration_of : World → Option Tick → Tick
-expiration_of w None = record { 0 = w.clock + 1000 }
+expiration_of w None = record { 0 = w.clock + DEFAULT_LIFE }
 expiration_of w (Some expiration) = expiration
 
 abbrev pub version_of : Bool → Option Version

@@ -5,22 +5,14 @@ ghost use Rattle.ft_world.specs.Acts.{act};
 ghost use Rattle.ft_world.specs.Sound.{Answered, Did};
 
 use crate::clients::Client;
+use crate::limits::{CLIENT_LIMIT, GROUP_LIMIT};
 use crate::worlds::World;
 use fault_script::{LimitName, Line, LineFault};
-use ft_base::{GroupId, HostNo, Members, Name, NoMemory, Steps, Version};
+use ft_base::{GroupId, HOST_LIMIT, HostNo, Members, Name, NoMemory, Steps, Version};
 use ft_report::{ReportLine, ReportLines, Role};
 use group_core::Group;
 use std::alloc::Global;
 use std::sync::ledger::Ledger;
-
-/// The most hosts.
-pub const HOST_LIMIT: u64 = 64;
-
-/// The most groups that a script makes.
-pub const GROUP_LIMIT: usize = 256;
-
-/// The most clients of a script.
-pub const CLIENT_LIMIT: usize = 1024;
 
 // So far a group's one view is its first.
 const FIRST: Version = Version(1);
@@ -84,7 +76,7 @@ impl World {
         if self.has_hosts() {
             return Err(LineFault::Again);
         }
-        if count > HOST_LIMIT {
+        if count > HOST_LIMIT as u64 {
             return Err(LineFault::Limit(LimitName::Hosts));
         }
         self.make_hosts(count as u8)?;

@@ -7,21 +7,13 @@ ghost use Rattle.ft_world.specs.Sound.{Answered, HasSent};
 ghost use Rattle.ft_world.specs.declared.clients.Client.{Client};
 
 use crate::clients::Client;
+use crate::limits::{DEFAULT_LIFE, ENTRY_LIMIT, MESSAGE_LIMIT};
 use crate::messages::{Attempt, Message};
 use crate::worlds::World;
 use fault_script::{CallWords, LimitName, LineFault, Words, call_words};
 use ft_base::{HostNo, Key, Name, NoMemory, Request, Retention, Tick, Version};
 use ft_report::{ReportLine, ReportLines};
 use std::alloc::Global;
-
-/// The most entries of all journals together.
-pub const ENTRY_LIMIT: u64 = 262_144;
-
-/// The most messages that a script sends.
-pub const MESSAGE_LIMIT: usize = 262_144;
-
-/// How long a request is good for where its call doesn't say: so many ticks from the clock.
-pub const DEFAULT_LIFE: u64 = 1000;
 
 fn retention_of(client: &Client, retention: Option<Retention>) -> Retention
     requires { client.now.numbered + 1 < 2 ^ 31 }

@@ -8,13 +8,13 @@ mod calls;
 mod clients;
 mod deliveries;
 mod laws;
+mod limits;
 mod links;
 mod messages;
 mod worlds;
 
-pub use acts::{CLIENT_LIMIT, GROUP_LIMIT, HOST_LIMIT};
-pub use calls::{DEFAULT_LIFE, ENTRY_LIMIT, MESSAGE_LIMIT};
 pub use clients::Client;
 pub use laws::accepts_at_most_once;
+pub use limits::{CLIENT_LIMIT, DEFAULT_LIFE, ENTRY_LIMIT, GROUP_LIMIT, MESSAGE_LIMIT};
 pub use messages::{Attempt, Message, Reply};
 pub use worlds::World;

@@ -13,7 +13,7 @@ ghost use Rattle.ft_world.specs.Links.{asked_at, end_lines, group_keyed, inject_
 ghost use Rattle.ft_world.specs.Serving.{Ended, HasName, IsShortMessage, IsShortRequest, Links, Serving};
 ghost use Rattle.ft_world.specs.Sound.{AnsweredAfter, Did, IsPlace};
 
-use crate::calls::ENTRY_LIMIT;
+use crate::limits::ENTRY_LIMIT;
 use crate::worlds::World;
 use cdr_codec::Order;
 use fault_script::{LimitName, LineFault};

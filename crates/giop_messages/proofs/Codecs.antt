@@ -9,11 +9,11 @@ use Rattle.cdr_codec.specs.Values.{text}
 use Rattle.cdr_codec.specs.Laws.{IsCodec}
 use Rattle.cdr_codec.proofs.Codecs.{number_codec, octets_codec, nothing_codec, judged_at_codec, judged_codec, followed_codec, in_order_codec}
 use Rattle.cdr_codec.proofs.Sequences.{lifted_codec}
-use Rattle.cdr_codec.proofs.TaggedLaws.{any_octet_codec, tagged_codec, all_tagged_codec}
+use Rattle.cdr_codec.proofs.TaggedLaws.{any_octet_codec, all_tagged_codec}
 use Rattle.cdr_codec.proofs.StructLaws.{struct_codec}
 use Rattle.cdr_codec.proofs.ValueLaws.{text_codec}
 use Rattle.ft_contexts.specs.Lists.{context_with, context_parts, contexts as context_list}
-use Rattle.iogr_reference.specs.Formats.{profile, profile_of, profile_parts, ior, ior_fields}
+use Rattle.iogr_reference.specs.Formats.{profile, ior}
 use Rattle.giop_messages.specs.declared.faults.Why.TheVariants as causes
 use Rattle.giop_messages.specs.declared.addresses.Target.{Target}
 use Rattle.giop_messages.specs.declared.addresses.Target.TheVariants as targets
@@ -69,40 +69,42 @@ header_codec = judged_at_codec causes.Short head (λ place. place + 6) causes.Fl
 
 -- ---- the target
 
-profile_codec : IsCodec Short profile
-profile_codec = tagged_codec profile_of profile_parts (λ x. refl) (λ p. refl)
+-- what references owe: profiles and references are codecs
+pub record ReferenceCodecs : Type 0 where
+  pub each_profile : IsCodec Short profile
+  pub references : IsCodec Short ior
 
-ior_codec : IsCodec Short ior
-ior_codec = struct_codec Short ior_fields (text_codec, λ type_id. (all_tagged_codec profile_of profile_parts (λ x. refl) (λ p. refl), λ ps. tt))
+pub reference_codecs : IsCodec Short profile → IsCodec Short ior → ReferenceCodecs
+reference_codecs each_profile references = record { each_profile = each_profile; references = references }
 
 key_target_codec : IsCodec Short key_target
 key_target_codec = judged_codec Short octets 4 Short (λ key. Some (targets.Key key)) key_in octets_codec
 
-profile_target_codec : IsCodec Short profile_target
-profile_target_codec = judged_codec Short profile 4 Short (λ p. Some (targets.Profile p)) profile_in profile_codec
+profile_target_codec : ReferenceCodecs → IsCodec Short profile_target
+profile_target_codec laws = judged_codec Short profile 4 Short (λ p. Some (targets.Profile p)) profile_in laws.each_profile
 
-reference_target_codec : IsCodec Short reference_target
-reference_target_codec =
+reference_target_codec : ReferenceCodecs → IsCodec Short reference_target
+reference_target_codec laws =
     judged_codec Short (followed (number 4) (λ i. ior)) 4 Short (λ x. Some (targets.Reference x.0 x.1)) reference_in
-    (followed_codec Short (number 4) (λ i. ior) (number_codec 4) (λ i. ior_codec))
+    (followed_codec Short (number 4) (λ i. ior) (number_codec 4) (λ i. laws.references))
 
 row_codec : (b : Bool) (f others : Format CdrWhy Target) → IsCodec Short f → IsCodec Short others → IsCodec Short (row b f others)
 row_codec true f others one rest = one
 row_codec false f others one rest = rest
 
-target_by_codec : (n : ℕ) → IsCodec Short (target_by n)
-target_by_codec n =
+target_by_codec : ReferenceCodecs → (n : ℕ) → IsCodec Short (target_by n)
+target_by_codec laws n =
     row_codec (n == 0) key_target _ key_target_codec
-    (row_codec (n == 1) profile_target _ profile_target_codec
-    (row_codec (n == 2) reference_target _ reference_target_codec (nothing_codec Short (targets.Other n))))
+    (row_codec (n == 1) profile_target _ (profile_target_codec laws)
+    (row_codec (n == 2) reference_target _ (reference_target_codec laws) (nothing_codec Short (targets.Other n))))
 
-target_codec : IsCodec Short target
-target_codec = followed_codec Short (number 2) target_by (number_codec 2) target_by_codec
+target_codec : ReferenceCodecs → IsCodec Short target
+target_codec laws = followed_codec Short (number 2) target_by (number_codec 2) (target_by_codec laws)
 
-address_codec : IsCodec causes.Short address
-address_codec =
+address_codec : ReferenceCodecs → IsCodec causes.Short address
+address_codec laws =
     judged_codec causes.Short (lifted up target) 2 causes.Address (λ x. key_named x.1) (λ key. (0, targets.Key key))
-    (lifted_codec Short up target target_codec)
+    (lifted_codec Short up target (target_codec laws))
 
 -- ---- the fields
 
@@ -122,8 +124,8 @@ status_codec : (statuses : List ℕ) → IsCodec causes.Short (status_among stat
 status_codec statuses =
     judged_codec causes.Short (lifted up (number 4)) 4 causes.Status (λ n. find (λ status. status == n) statuses) (λ status. status) unsigned_codec
 
-pub request_head_codec : IsCodec causes.Short request_head
-request_head_codec =
+pub request_head_codec : ReferenceCodecs → IsCodec causes.Short request_head
+request_head_codec laws =
     struct_codec causes.Short request_fields (
       request_id_codec,
       λ id. (
@@ -135,7 +137,7 @@ request_head_codec =
             λ second. (
               reserved_codec,
               λ third.
-                  (address_codec, λ key. (text_up_codec, λ op. (contexts_codec, λ contexts. tt))),
+                  (address_codec laws, λ key. (text_up_codec, λ op. (contexts_codec, λ contexts. tt))),
             ),
           ),
         ),
@@ -146,8 +148,8 @@ pub reply_head_codec : IsCodec causes.Short reply_head
 reply_head_codec =
     struct_codec causes.Short reply_fields (request_id_codec, λ id. (status_codec reply_statuses, λ status. (contexts_codec, λ contexts. tt)))
 
-pub locate_request_codec : IsCodec causes.Short locate_request
-locate_request_codec = followed_codec causes.Short request_id (λ id. address) request_id_codec (λ id. address_codec)
+pub locate_request_codec : ReferenceCodecs → IsCodec causes.Short locate_request
+locate_request_codec laws = followed_codec causes.Short request_id (λ id. address) request_id_codec (λ id. address_codec laws)
 
 pub locate_reply_codec : IsCodec causes.Short locate_reply
 locate_reply_codec =

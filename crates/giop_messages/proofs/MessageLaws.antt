@@ -24,7 +24,7 @@ use Rattle.giop_messages.specs.Heads.{flags_fit, if_flags_fit, head, header, hea
 use Rattle.giop_messages.specs.Fields.{request_id, request_head, reply_head, locate_request, locate_reply}
 use Rattle.giop_messages.specs.Messages.{kind_in, head_of_request, head_of_reply, SpellsBody, SpellsWithBody, SpellsFields, SpellsPayload, Spells, body_at, request_from, reply_from, payload_at, fields_in, cut, behind, message_in}
 use Rattle.giop_messages.specs.Laws.{SpellsHead}
-use Rattle.giop_messages.proofs.Codecs.{head_codec, header_codec, request_id_codec, request_head_codec, reply_head_codec, locate_request_codec, locate_reply_codec}
+use Rattle.giop_messages.proofs.Codecs.{ReferenceCodecs, head_codec, header_codec, request_id_codec, request_head_codec, reply_head_codec, locate_request_codec, locate_reply_codec}
 use Rattle.giop_messages.proofs.Lengths.{header_long}
 use Rattle.giop_messages.proofs.BodyLaws.{body_found, body_again}
 
@@ -56,32 +56,32 @@ fields_found f law order payload x e =
     let t = law.found (reader_at order 12 payload) x e in
     record { front = t.bytes; more = x.1.rest; is = t.moved.is; fields_spelled = t.spelled }
 
-payload_found : (kind : Kind) (order : Order) (payload : List ℕ) (m : Message) → payload_at kind (reader_at order 12 payload) ≡ Ok m → IsIn kind order m payload
-payload_found kinds.Request order payload m e =
+payload_found : ReferenceCodecs → (kind : Kind) (order : Order) (payload : List ℕ) (m : Message) → payload_at kind (reader_at order 12 payload) ≡ Ok m → IsIn kind order m payload
+payload_found laws kinds.Request order payload m e =
     let b = bind_ok (request_head.read (reader_at order 12 payload)) _ m e in
     subst (λ (m : Message). IsIn kinds.Request order m payload) (ok_is (messages.Request (request_from b.0.0 (body_at b.0.1))) m b.2)
-    (record { kind_is = refl; fields_spelled = with_body_found request_head request_head_codec order payload b.0 b.1 })
-payload_found kinds.Reply order payload m e =
+    (record { kind_is = refl; fields_spelled = with_body_found request_head (request_head_codec laws) order payload b.0 b.1 })
+payload_found laws kinds.Reply order payload m e =
     let b = bind_ok (reply_head.read (reader_at order 12 payload)) _ m e in
     subst (λ (m : Message). IsIn kinds.Reply order m payload) (ok_is (messages.Reply (reply_from b.0.0 (body_at b.0.1))) m b.2)
     (record { kind_is = refl; fields_spelled = with_body_found reply_head reply_head_codec order payload b.0 b.1 })
-payload_found kinds.CancelRequest order payload m e =
+payload_found laws kinds.CancelRequest order payload m e =
     let b = bind_ok (request_id.read (reader_at order 12 payload)) _ m e in
     subst (λ (m : Message). IsIn kinds.CancelRequest order m payload) (ok_is (messages.Cancel b.0.0) m b.2)
     (record { kind_is = refl; fields_spelled = fields_found request_id request_id_codec order payload b.0 b.1 })
-payload_found kinds.LocateRequest order payload m e =
+payload_found laws kinds.LocateRequest order payload m e =
     let b = bind_ok (locate_request.read (reader_at order 12 payload)) _ m e in
     subst (λ (m : Message). IsIn kinds.LocateRequest order m payload) (ok_is (messages.LocateRequest b.0.0.0 b.0.0.1) m b.2)
-    (record { kind_is = refl; fields_spelled = fields_found locate_request locate_request_codec order payload b.0 b.1 })
-payload_found kinds.LocateReply order payload m e =
+    (record { kind_is = refl; fields_spelled = fields_found locate_request (locate_request_codec laws) order payload b.0 b.1 })
+payload_found laws kinds.LocateReply order payload m e =
     let b = bind_ok (locate_reply.read (reader_at order 12 payload)) _ m e in
     subst (λ (m : Message). IsIn kinds.LocateReply order m payload) (ok_is (messages.LocateReply b.0.0.0 b.0.0.1) m b.2)
     (record { kind_is = refl; fields_spelled = fields_found locate_reply locate_reply_codec order payload b.0 b.1 })
-payload_found kinds.CloseConnection order payload m e =
+payload_found laws kinds.CloseConnection order payload m e =
     subst (λ (m : Message). IsIn kinds.CloseConnection order m payload) (ok_is messages.CloseConnection m e) (record { kind_is = refl; fields_spelled = tt })
-payload_found kinds.MessageError order payload m e =
+payload_found laws kinds.MessageError order payload m e =
     subst (λ (m : Message). IsIn kinds.MessageError order m payload) (ok_is messages.MessageError m e) (record { kind_is = refl; fields_spelled = tt })
-payload_found kinds.Fragment order payload m e =
+payload_found laws kinds.Fragment order payload m e =
     let b = bind_ok (request_id.read (reader_at order 12 payload)) _ m e in
     let t = request_id_codec.found (reader_at order 12 payload) b.0 b.1 in
     subst (λ (m : Message). IsIn kinds.Fragment order m payload) (ok_is (messages.Fragment b.0.0 b.0.1.rest) m b.2)
@@ -93,19 +93,19 @@ fields_again : {X Y : Type 0} (f : Format Why X) → IsCodec causes.Short f → 
 fields_again f law order x front more payload next y is spelled goes =
     bind_goes (f.read (reader_at order 12 payload)) next _ _ (ap (λ (l : List ℕ). f.read (reader_at order 12 l)) is ∙ law.again order 12 x front more spelled) goes
 
-payload_again : (m : Message) (order : Order) (payload : List ℕ) → SpellsPayload order m payload → payload_at (kind_in m) (reader_at order 12 payload) ≡ Ok m
-payload_again (messages.Request r) order payload s =
-    fields_again request_head request_head_codec order (head_of_request r) s.front s.back payload _ _ s.is s.fields_spelled
+payload_again : ReferenceCodecs → (m : Message) (order : Order) (payload : List ℕ) → SpellsPayload order m payload → payload_at (kind_in m) (reader_at order 12 payload) ≡ Ok m
+payload_again laws (messages.Request r) order payload s =
+    fields_again request_head (request_head_codec laws) order (head_of_request r) s.front s.back payload _ _ s.is s.fields_spelled
     (ap (λ (body : Raw). done (messages.Request (request_from (head_of_request r) body))) (body_again order (12 + length s.front) r.body s.back s.body_spelled))
-payload_again (messages.Reply r) order payload s =
+payload_again laws (messages.Reply r) order payload s =
     fields_again reply_head reply_head_codec order (head_of_reply r) s.front s.back payload _ _ s.is s.fields_spelled
     (ap (λ (body : Raw). done (messages.Reply (reply_from (head_of_reply r) body))) (body_again order (12 + length s.front) r.body s.back s.body_spelled))
-payload_again (messages.Cancel id) order payload s = fields_again request_id request_id_codec order id s.front s.more payload _ _ s.is s.fields_spelled refl
-payload_again (messages.LocateRequest id key) order payload s = fields_again locate_request locate_request_codec order (id, key) s.front s.more payload _ _ s.is s.fields_spelled refl
-payload_again (messages.LocateReply id status) order payload s = fields_again locate_reply locate_reply_codec order (id, status) s.front s.more payload _ _ s.is s.fields_spelled refl
-payload_again messages.CloseConnection order payload s = refl
-payload_again messages.MessageError order payload s = refl
-payload_again (messages.Fragment id rest) order payload s = fields_again request_id request_id_codec order id s.front rest payload _ _ s.is s.id_spelled refl
+payload_again laws (messages.Cancel id) order payload s = fields_again request_id request_id_codec order id s.front s.more payload _ _ s.is s.fields_spelled refl
+payload_again laws (messages.LocateRequest id key) order payload s = fields_again locate_request (locate_request_codec laws) order (id, key) s.front s.more payload _ _ s.is s.fields_spelled refl
+payload_again laws (messages.LocateReply id status) order payload s = fields_again locate_reply locate_reply_codec order (id, status) s.front s.more payload _ _ s.is s.fields_spelled refl
+payload_again laws messages.CloseConnection order payload s = refl
+payload_again laws messages.MessageError order payload s = refl
+payload_again laws (messages.Fragment id rest) order payload s = fields_again request_id request_id_codec order id s.front rest payload _ _ s.is s.id_spelled refl
 
 -- ---- the whole message
 
@@ -126,16 +126,16 @@ head_with flags kind size = record { flags = flags; kind = kind; size = size }
 abbrev payload_reader : Head → List ℕ → Reader
 payload_reader h bytes = reader_at (order_of h.flags) 12 (take h.size (drop 12 bytes))
 
-found_behind : (bytes front rest : List ℕ) (h : Head) (m : Message) (order : Order) → bytes ≡ front ++ rest → header.Spelled Big 0 h front
+found_behind : ReferenceCodecs → (bytes front rest : List ℕ) (h : Head) (m : Message) (order : Order) → bytes ≡ front ++ rest → header.Spelled Big 0 h front
     → behind bytes h ≡ Ok (with_order m order) → Spells bytes order m
-found_behind bytes front rest h m order is spelled e =
+found_behind laws bytes front rest h m order is spelled e =
     let twelve = header_long.long Big h front spelled in
     let whole = unless_cut (ltb (length bytes) (12 + h.size)) (cut bytes) _ (with_order m order) e in
     let enough : 12 + h.size ≤ length bytes = ltb-false _ _ whole.0 in
     let payload = take h.size (drop 12 bytes) in
     let b = bind_ok (payload_at h.kind (payload_reader h bytes)) (λ m. done (with_order m (order_of h.flags))) (with_order m order) whole.1 in
     let same = ok_is (with_order b.0 (order_of h.flags)) (with_order m order) b.2 in
-    let i = subst (λ (m : Message). IsIn h.kind (order_of h.flags) m payload) (ap (λ (p : Message × Order). p.0) same) (payload_found h.kind (order_of h.flags) payload b.0 b.1) in
+    let i = subst (λ (m : Message). IsIn h.kind (order_of h.flags) m payload) (ap (λ (p : Message × Order). p.0) same) (payload_found laws h.kind (order_of h.flags) payload b.0 b.1) in
     let order-is : order ≡ order_of h.flags = sym (ap (λ (p : Message × Order). p.1) same) in
     let sized : length payload ≡ h.size = length-take-le h.size (drop 12 bytes) (omega (arith, length-drop 12 bytes)) in
     let left : drop 12 bytes ≡ rest = ap (drop 12) is ∙ drop_at front rest 12 twelve in
@@ -153,16 +153,16 @@ found_behind bytes front rest h m order is spelled e =
     }
 
 -- what is read is spelled
-pub message_found : (bytes : List ℕ) (m : Message) (order : Order) → message_in bytes ≡ Ok (m, order) → Spells bytes order m
-message_found bytes m order e =
+pub message_found : ReferenceCodecs → (bytes : List ℕ) (m : Message) (order : Order) → message_in bytes ≡ Ok (m, order) → Spells bytes order m
+message_found laws bytes m order e =
     let whole = unless_cut (ltb (length bytes) 12) (cut bytes) _ (with_order m order) e in
     let b = bind_ok (header.read (reader_at Big 0 bytes)) (λ h. behind bytes h.0) (with_order m order) whole.1 in
     let t = header_codec.found (reader_at Big 0 bytes) b.0 b.1 in
-    found_behind bytes t.bytes b.0.1.rest b.0.0 m order t.moved.is t.spelled b.2
+    found_behind laws bytes t.bytes b.0.1.rest b.0.0 m order t.moved.is t.spelled b.2
 
 -- what is spelled is read
-pub message_again : (bytes : List ℕ) (m : Message) (order : Order) → Spells bytes order m → message_in bytes ≡ Ok (m, order)
-message_again bytes m order s =
+pub message_again : ReferenceCodecs → (bytes : List ℕ) (m : Message) (order : Order) → Spells bytes order m → message_in bytes ≡ Ok (m, order)
+message_again laws bytes m order s =
     let h = head_with s.flags (kind_in m) (length s.payload) in
     let twelve = header_long.long Big h s.front s.head_spelled in
     let is : bytes ≡ s.front ++ (s.payload ++ s.more) = s.is ∙ append_assoc s.front s.payload s.more in
@@ -173,7 +173,7 @@ message_again bytes m order s =
     ∙ take_at s.payload s.more (length s.payload) refl in
     let fields : payload_at (kind_in m) (payload_reader h bytes) ≡ Ok m =
     ap (λ (l : List ℕ). payload_at (kind_in m) (reader_at (order_of s.flags) 12 l)) payload-is
-    ∙ payload_again m (order_of s.flags) s.payload (subst (λ (o : Order). SpellsPayload o m s.payload) s.ordered s.fields_spelled) in
+    ∙ payload_again laws m (order_of s.flags) s.payload (subst (λ (o : Order). SpellsPayload o m s.payload) s.ordered s.fields_spelled) in
     let behind-is : behind bytes h ≡ Ok (with_order m order) =
     goes_on (ltb (length bytes) (12 + length s.payload)) (cut bytes) _ _ (le-ltb _ _ (omega arith))
     (bind_goes (payload_at (kind_in m) (payload_reader h bytes)) (λ m. done (with_order m (order_of s.flags))) _ _ fields (ap (λ (o : Order). done (with_order m o)) (sym s.ordered))) in
@@ -183,9 +183,9 @@ message_again bytes m order s =
     (bind_goes (header.read (reader_at Big 0 bytes)) (λ h. behind bytes h.0) _ _ read behind-is)
 
 -- bytes spell one message at most
-pub spelled_once : (bytes : List ℕ) (m n : Message) (order other : Order) → Spells bytes order m → Spells bytes other n → (m ≡ n) × (order ≡ other)
-spelled_once bytes m n order other s t =
-    let same = ok_is (with_order m order) (with_order n other) (sym (message_again bytes m order s) ∙ message_again bytes n other t) in
+pub spelled_once : ReferenceCodecs → (bytes : List ℕ) (m n : Message) (order other : Order) → Spells bytes order m → Spells bytes other n → (m ≡ n) × (order ≡ other)
+spelled_once laws bytes m n order other s t =
+    let same = ok_is (with_order m order) (with_order n other) (sym (message_again laws bytes m order s) ∙ message_again laws bytes n other t) in
     (ap (λ (p : Message × Order). p.0) same, ap (λ (p : Message × Order). p.1) same)
 
 -- ---- headers
@@ -227,15 +227,15 @@ fields_behind bytes payload h e fit left sized long =
 
 -- ---- a call's answers
 
-pub is_found : (bytes : List ℕ) (result : Result (Message × Order) ReadFault) → Tells (λ m. m) read_fault result (message_in bytes) → IfOk result (λ m. Spells bytes m.1 m.0)
-is_found bytes (Ok m) h = message_found bytes m.0 m.1 h
-is_found bytes (Err e) h = tt
+pub is_found : ReferenceCodecs → (bytes : List ℕ) (result : Result (Message × Order) ReadFault) → Tells (λ m. m) read_fault result (message_in bytes) → IfOk result (λ m. Spells bytes m.1 m.0)
+is_found laws bytes (Ok m) h = message_found laws bytes m.0 m.1 h
+is_found laws bytes (Err e) h = tt
 
-nothing_spelled : (bytes : List ℕ) (o : Option (Fault Why)) → FailsIn o (message_in bytes) → OnFault o ((m : Message) (order : Order) → Spells bytes order m → ⊥)
-nothing_spelled bytes None h = tt
-nothing_spelled bytes (Some wrong) h = λ m order s. err_ok (with_order m order) wrong (sym h ∙ message_again bytes m order s)
+nothing_spelled : ReferenceCodecs → (bytes : List ℕ) (o : Option (Fault Why)) → FailsIn o (message_in bytes) → OnFault o ((m : Message) (order : Order) → Spells bytes order m → ⊥)
+nothing_spelled laws bytes None h = tt
+nothing_spelled laws bytes (Some wrong) h = λ m order s. err_ok (with_order m order) wrong (sym h ∙ message_again laws bytes m order s)
 
-pub is_refused : (bytes : List ℕ) (result : Result (Message × Order) ReadFault) → Tells (λ m. m) read_fault result (message_in bytes)
+pub is_refused : ReferenceCodecs → (bytes : List ℕ) (result : Result (Message × Order) ReadFault) → Tells (λ m. m) read_fault result (message_in bytes)
     → Refuses read_fault result ((m : Message) (order : Order) → Spells bytes order m → ⊥)
-is_refused bytes (Ok m) h = tt
-is_refused bytes (Err e) h = nothing_spelled bytes (read_fault e) h
+is_refused laws bytes (Ok m) h = tt
+is_refused laws bytes (Err e) h = nothing_spelled laws bytes (read_fault e) h

@@ -26,7 +26,7 @@ use Rattle.giop_messages.specs.Addresses.{address}
 use Rattle.giop_messages.specs.Fields.{request_id, reserved, contexts, request_head, reply_statuses, reply_head, locate_request, locate_statuses, locate_reply}
 use Rattle.giop_messages.specs.Messages.{kind_in, head_of_request, head_of_reply, SpellsWithBody, SpellsFields, SpellsPayload, Spells, message_in}
 use Rattle.giop_messages.specs.Writing.{padded_body, with_body, written_payload, whole_head, written_message, AreContexts, IsBodyFor, IsRequest, IsAmong, IsReply, HasFields, Writable, AreNumbered, IsNumberedRequest, IsNumberedReply, IsNumbered}
-use Rattle.giop_messages.proofs.Codecs.{head_codec, header_codec, request_id_codec, request_head_codec, reply_head_codec, locate_request_codec, locate_reply_codec}
+use Rattle.giop_messages.proofs.Codecs.{ReferenceCodecs, head_codec, header_codec, request_id_codec, request_head_codec, reply_head_codec, locate_request_codec, locate_reply_codec}
 use Rattle.giop_messages.proofs.BodyLaws.{body_spells}
 use Rattle.giop_messages.proofs.MessageLaws.{head_again, message_again}
 
@@ -148,18 +148,18 @@ with_body_written f law order x body h b =
       body_spelled = body_spells order (12 + length front) body b.ordered b.aligned;
     }
 
-payload_spells : (m : Message) (order : Order) → IsNumbered m → HasFields order m → SpellsPayload order m (written_payload order m)
-payload_spells (messages.Request r) order n h =
-    with_body_written request_head request_head_codec order (head_of_request r) r.body (request_valid order r n h) h.body
-payload_spells (messages.Reply r) order n h = with_body_written reply_head reply_head_codec order (head_of_reply r) r.body (reply_valid order r n h) h.body
-payload_spells (messages.Cancel id) order n h = fields_written request_id request_id_codec order id n
-payload_spells (messages.LocateRequest id key) order n h =
-    fields_written locate_request locate_request_codec order (id, key) (locate_request_valid id key n h)
-payload_spells (messages.LocateReply id status) order n h =
+payload_spells : ReferenceCodecs → (m : Message) (order : Order) → IsNumbered m → HasFields order m → SpellsPayload order m (written_payload order m)
+payload_spells laws (messages.Request r) order n h =
+    with_body_written request_head (request_head_codec laws) order (head_of_request r) r.body (request_valid order r n h) h.body
+payload_spells laws (messages.Reply r) order n h = with_body_written reply_head reply_head_codec order (head_of_reply r) r.body (reply_valid order r n h) h.body
+payload_spells laws (messages.Cancel id) order n h = fields_written request_id request_id_codec order id n
+payload_spells laws (messages.LocateRequest id key) order n h =
+    fields_written locate_request (locate_request_codec laws) order (id, key) (locate_request_valid id key n h)
+payload_spells laws (messages.LocateReply id status) order n h =
     fields_written locate_reply locate_reply_codec order (id, status) (locate_reply_valid id status n h)
-payload_spells messages.CloseConnection order n h = tt
-payload_spells messages.MessageError order n h = tt
-payload_spells (messages.Fragment id rest) order n h = record {
+payload_spells laws messages.CloseConnection order n h = tt
+payload_spells laws messages.MessageError order n h = tt
+payload_spells laws (messages.Fragment id rest) order n h = record {
   front = request_id.written order 12 id;
   is = refl;
   id_spelled = request_id_codec.spells order 12 id n;
@@ -168,8 +168,8 @@ payload_spells (messages.Fragment id rest) order n h = record {
 -- ---- the whole message
 
 -- what is written spells the message
-pub message_spells : (m : Message) (order : Order) → IsNumbered m → Writable m order → Spells (written_message m order) order m
-message_spells m order n w =
+pub message_spells : ReferenceCodecs → (m : Message) (order : Order) → IsNumbered m → Writable m order → Spells (written_message m order) order m
+message_spells laws m order n w =
     let payload = written_payload order m in
     let h = whole_head order (kind_in m) (length payload) in
     let front = header.written Big 0 h in
@@ -182,21 +182,21 @@ message_spells m order n w =
       is = sym (append-nil (front ++ payload));
       ordered = sign_means order;
       head_spelled = header_codec.spells Big 0 h (header_valid order (kind_in m) (length payload) small);
-      fields_spelled = payload_spells m order n w.fields;
+      fields_spelled = payload_spells laws m order n w.fields;
     }
 
 -- and is read back
-pub message_back : (m : Message) (order : Order) → IsNumbered m → Writable m order → message_in (written_message m order) ≡ Ok (m, order)
-message_back m order n w = message_again (written_message m order) m order (message_spells m order n w)
+pub message_back : ReferenceCodecs → (m : Message) (order : Order) → IsNumbered m → Writable m order → message_in (written_message m order) ≡ Ok (m, order)
+message_back laws m order n w = message_again laws (written_message m order) m order (message_spells laws m order n w)
 
 -- ---- a call's answers
 
-pub is_spelled : (m : Message) (order : Order) (result : Result (List ℕ) NoMemory) → IfOk result (λ bytes. IsNumbered m) → Writable m order
+pub is_spelled : ReferenceCodecs → (m : Message) (order : Order) (result : Result (List ℕ) NoMemory) → IfOk result (λ bytes. IsNumbered m) → Writable m order
     → IfOk result (λ bytes. bytes ≡ written_message m order) → IfOk result (λ bytes. Spells bytes order m)
-is_spelled m order (Ok bytes) n w h = subst (λ (l : List ℕ). Spells l order m) (sym h) (message_spells m order n w)
-is_spelled m order (Err e) n w h = tt
+is_spelled laws m order (Ok bytes) n w h = subst (λ (l : List ℕ). Spells l order m) (sym h) (message_spells laws m order n w)
+is_spelled laws m order (Err e) n w h = tt
 
-pub is_read_back : (m : Message) (order : Order) (result : Result (List ℕ) NoMemory) → IfOk result (λ bytes. IsNumbered m) → Writable m order
+pub is_read_back : ReferenceCodecs → (m : Message) (order : Order) (result : Result (List ℕ) NoMemory) → IfOk result (λ bytes. IsNumbered m) → Writable m order
     → IfOk result (λ bytes. bytes ≡ written_message m order) → IfOk result (λ bytes. message_in bytes ≡ Ok (m, order))
-is_read_back m order (Ok bytes) n w h = ap message_in h ∙ message_back m order n w
-is_read_back m order (Err e) n w h = tt
+is_read_back laws m order (Ok bytes) n w h = ap message_in h ∙ message_back laws m order n w
+is_read_back laws m order (Err e) n w h = tt

@@ -205,7 +205,7 @@ pub fn read_header(reader: &mut CdrReader) -> Result<Head, Malformed>
 /// The header at the front of the bytes, whatever its flags: the causes are judged in the order `Magic`,
 /// `Version`, `Kind`.
 pub fn read_head(bytes: &[u8]) -> Result<Head, Malformed>
-    requires whole { 12 ≤ length bytes.now }
+    requires whole { HEAD_LENGTH ≤ length bytes.now }
     requires short { length bytes.now + 8 < 2 ^ 32 }
     ensures { IsJudged result (head_in bytes.now) }
 {
@@ -213,7 +213,7 @@ pub fn read_head(bytes: &[u8]) -> Result<Head, Malformed>
     read_fields(&mut reader)
 }
 
-/// A writer behind the header of a message that is whole.
+/// A writer behind the header of a message that is whole, with room for what the size says.
 #[tactic(auto, using(crate::proofs::WritingSteps::header_written))]
 pub fn begin_message(
     alloc: Global,
@@ -224,6 +224,7 @@ pub fn begin_message(
     ensures { IfOk result (λ writer. writer ≡ record { order = order; place = 0; text = header.written Big 0 (record { flags = order_sign order; kind = kind; size = size }) }) }
 {
     let mut writer = CdrWriter::new(alloc, order, 0);
+    writer.reserve(HEAD_LENGTH + size as usize)?;
     let front = [b'G', b'I', b'O', b'P', 1, 2, order.sign(), kind.number()];
     writer.write_piece(1, front.as_slice())?;
     writer.write_u32(size)?;

@@ -1,5 +1,8 @@
-//! The laws of reading and writing messages. The functions do nothing: their contracts are facts.
+//! The laws of reading and writing messages. The functions do nothing: their contracts are facts. Those that
+//! rest on the laws of references call them.
 ghost use Rattle.giop_messages.specs.Laws.{HeadsAreReadExactly, HeadersAreReadBack, MessagesAreReadExactly, MessagesAreSpelledOnce, MessagesAreFieldsBehindHeaders, MessagesAreWithin, MessagesAreSpelled, MessagesAreReadBack};
+
+use iogr_reference::references_are_codecs;
 
 /// The header that is read of bytes is the one that they spell.
 pub fn heads_are_read_exactly()
@@ -10,17 +13,23 @@ pub fn heads_are_read_exactly()
 pub fn messages_are_read_exactly()
     ensures exactly { MessagesAreReadExactly }
     ensures once { MessagesAreSpelledOnce }
-{}
+{
+    references_are_codecs();
+}
 
 /// What is written spells the message.
 pub fn messages_are_spelled()
     ensures { MessagesAreSpelled }
-{}
+{
+    references_are_codecs();
+}
 
 /// What is written is read back, in the byte order in which it was written.
 pub fn messages_are_read_back()
     ensures { MessagesAreReadBack }
-{}
+{
+    references_are_codecs();
+}
 
 /// A header that is written is read again, whatever follows.
 pub fn headers_are_read_back()

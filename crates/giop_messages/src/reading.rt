@@ -17,6 +17,7 @@ use crate::requests::read_request_head;
 use crate::statuses::read_locate_status;
 use cdr_codec::{CdrReader, Order, Raw};
 use ft_base::{Bytes, NoMemory};
+use iogr_reference::references_are_codecs;
 use std::alloc::Global;
 
 fn behind(bytes: &[u8], count: usize) -> &[u8]
@@ -182,5 +183,6 @@ pub fn read_message(alloc: Global, bytes: &[u8]) -> Result<(Message, Order), Rea
     ensures refused { Refuses read_fault result ((message : Message) (order : Order) → Spells bytes.now order message → ⊥) }
     ensures read { Tells (λ m. m) read_fault result (message_in bytes.now) }
 {
+    references_are_codecs();
     read_exactly(alloc, bytes)
 }

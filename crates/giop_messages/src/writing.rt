@@ -10,13 +10,20 @@ use crate::replies::write_reply_head;
 use crate::requests::write_request_head;
 use cdr_codec::{CdrWriter, Order};
 use ft_base::{Bytes, NoMemory};
+use iogr_reference::references_are_codecs;
 use std::alloc::Global;
 
-/// A writer of what stands behind the header.
-fn begin_fields(alloc: Global, order: Order) -> CdrWriter
-    ensures { result ≡ record { order = order; place = HEAD_LENGTH; text = [] } }
+/// Room for the numbers, counts and paddings among the fields of a message without contexts.
+const FIELDS_ROOM: usize = 40;
+
+/// A writer of what stands behind the header, with room for so many bytes.
+fn begin_fields(alloc: Global, order: Order, room: usize) -> Result<CdrWriter, NoMemory>
+    requires { room < 2 ^ 40 }
+    ensures { IfOk result (λ writer. writer ≡ record { order = order; place = HEAD_LENGTH; text = [] }) }
 {
-    CdrWriter::new(alloc, order, HEAD_LENGTH as u32)
+    let mut writer = CdrWriter::new(alloc, order, HEAD_LENGTH as u32);
+    writer.reserve(room)?;
+    Ok(writer)
 }
 
 /// A header, and as many bytes as it says.
@@ -53,13 +60,21 @@ fn with_body(
     Ok(writer.finish())
 }
 
+fn request_room(request: &RequestMsg) -> usize
+    requires key { length request.now.key < 2 ^ 32 }
+    requires op { length request.now.op < 2 ^ 32 }
+    ensures { result < 2 ^ 40 }
+{
+    FIELDS_ROOM + request.key.bytes().len() + request.op.bytes().len()
+}
+
 #[tactic(auto, using(crate::proofs::WritingSteps::payload_short))]
 fn write_request(alloc: Global, request: &RequestMsg, order: Order) -> Result<Bytes, NoMemory>
     requires { Writable (messages.Request request.now) order }
     ensures written { IfOk result (λ bytes. bytes ≡ written_message (messages.Request request.now) order) }
     ensures numbered { IfOk result (λ bytes. IsNumberedRequest request.now) }
 {
-    let mut fields = begin_fields(alloc, order);
+    let mut fields = begin_fields(alloc, order, request_room(request))?;
     write_request_head(request, &mut fields)?;
     with_body(
         alloc,
@@ -76,7 +91,7 @@ fn write_reply(alloc: Global, reply: &ReplyMsg, order: Order) -> Result<Bytes, N
     ensures written { IfOk result (λ bytes. bytes ≡ written_message (messages.Reply reply.now) order) }
     ensures numbered { IfOk result (λ bytes. IsNumberedReply reply.now) }
 {
-    let mut fields = begin_fields(alloc, order);
+    let mut fields = begin_fields(alloc, order, FIELDS_ROOM)?;
     write_reply_head(reply, &mut fields)?;
     with_body(
         alloc,
@@ -92,7 +107,7 @@ fn write_cancel(alloc: Global, id: u32, order: Order) -> Result<Bytes, NoMemory>
     requires { Writable (messages.Cancel id) order }
     ensures { IfOk result (λ bytes. bytes ≡ written_message (messages.Cancel id) order) }
 {
-    let mut fields = begin_fields(alloc, order);
+    let mut fields = begin_fields(alloc, order, FIELDS_ROOM)?;
     fields.write_u32(id)?;
     whole(alloc, Kind::CancelRequest, order, fields.bytes())
 }
@@ -102,7 +117,7 @@ fn write_locate_request(alloc: Global, id: u32, key: &[u8], order: Order) -> Res
     requires { Writable (messages.LocateRequest id key.now) order }
     ensures { IfOk result (λ bytes. bytes ≡ written_message (messages.LocateRequest id key.now) order) }
 {
-    let mut fields = begin_fields(alloc, order);
+    let mut fields = begin_fields(alloc, order, FIELDS_ROOM)?;
     fields.write_u32(id)?;
     write_address(key, &mut fields)?;
     whole(alloc, Kind::LocateRequest, order, fields.bytes())
@@ -113,7 +128,7 @@ fn write_locate_reply(alloc: Global, id: u32, status: u32, order: Order) -> Resu
     requires { Writable (messages.LocateReply id status) order }
     ensures { IfOk result (λ bytes. bytes ≡ written_message (messages.LocateReply id status) order) }
 {
-    let mut fields = begin_fields(alloc, order);
+    let mut fields = begin_fields(alloc, order, FIELDS_ROOM)?;
     fields.write_u32(id)?;
     fields.write_u32(status)?;
     whole(alloc, Kind::LocateReply, order, fields.bytes())
@@ -124,7 +139,7 @@ fn write_fragment(alloc: Global, id: u32, rest: &[u8], order: Order) -> Result<B
     requires { Writable (messages.Fragment id rest.now) order }
     ensures { IfOk result (λ bytes. bytes ≡ written_message (messages.Fragment id rest.now) order) }
 {
-    let mut fields = begin_fields(alloc, order);
+    let mut fields = begin_fields(alloc, order, FIELDS_ROOM)?;
     fields.write_u32(id)?;
     fields.write_piece(1, rest)?;
     whole(alloc, Kind::Fragment, order, fields.bytes())
@@ -154,5 +169,6 @@ pub fn write_message(alloc: Global, message: &Message, order: Order) -> Result<B
     ensures spelled { IfOk result (λ bytes. Spells bytes order message.now) }
     ensures read_back { IfOk result (λ bytes. message_in bytes ≡ Ok (message.now, order)) }
 {
+    references_are_codecs();
     write_exactly(alloc, message, order)
 }

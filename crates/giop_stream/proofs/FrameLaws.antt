@@ -1,6 +1,6 @@
 -- The framer against the stream: what each of its steps leaves to come.
 use Rattle.std.proofs.Common.{◌≡◌, ℕ, ◌+◌, ◌<◌, ◌≤◌, List, [], ◌∷◌, ◌++◌, length, take, drop, Option, Some, None, Result, Ok, Err, refl, sym, ap, ◌∙◌, subst, arith, append_assoc, length-append, length-drop}
-use Rattle.std.specs.Prelude.{nat_lt}
+use Rattle.std.specs.Prelude.{◌-◌, nat_lt}
 use Rattle.std.proofs.lemmas.Bool.{cond-false, cond-true, le-ltb, lt-ltb}
 use Rattle.std.proofs.lemmas.List.{append-nil, take-append-le}
 use Rattle.giop_messages.specs.declared.heads.Head.{Head}
@@ -8,11 +8,12 @@ use Rattle.giop_stream.specs.declared.faults.StreamFault.{StreamFault}
 use Rattle.giop_stream.specs.declared.faults.StreamFault.TheVariants as faults
 use Rattle.giop_stream.specs.declared.framers.Step.TheVariants as steps
 use Rattle.giop_stream.specs.declared.fronts.Front.TheVariants.{Partly, Wrong, Whole}
+use Rattle.giop_stream.specs.Buffers.{Buffered}
 use Rattle.giop_stream.specs.Faults.{OnFault}
-use Rattle.giop_stream.specs.Fronts.{total, front, fronted, head_at, header_at_front, if_read, read_of, IsJudgedAt}
+use Rattle.giop_stream.specs.Fronts.{total, needed, front, fronted, head_at, header_at_front, if_read, read_of, judged_front, IsJudgedAt}
 use Rattle.giop_stream.specs.Parts.{Received, Begun, capped, Turn, Joins, Gives, Fails, turn}
 use Rattle.giop_stream.specs.Streams.{End, Rest, Stops, behind, stops, spent_in, turned, stream_on, stream}
-use Rattle.giop_stream.specs.Frames.{Frames, goes_on, resume, Stands, Passes, EndsWith, HasNext, stopped_at}
+use Rattle.giop_stream.specs.Frames.{Frames, IsKept, goes_on, resume, Stands, Passes, EndsWith, HasNext, stopped_at}
 use Rattle.giop_stream.specs.Steps.{stop_at, looked, Needs, Took, IsLess, Stepped, Advances}
 use Rattle.giop_stream.proofs.StreamLaws.{front_fits, front_long, front_short, partly_short, whole_part, wrong_part, no_part}
 
@@ -41,22 +42,40 @@ header_long bytes h = cond-false (nat_lt (length bytes) 12) (Ok None) (if_read (
 pub looked_none : (f : Frames) (r : Result (Option Head) StreamFault) → r ≡ header_at_front f.rest → f.head ≡ read_of r → f ≡ looked f
 looked_none f r e h = ap (λ (head : Option Head). record f { head = head }) (h ∙ ap read_of e)
 
-pub needs_header : (f : Frames) → f.head ≡ None → length f.rest < 12 → f.used ≡ 0 → Needs f
-needs_header f h lt u = record {
-  partly = front_short f.rest lt;
-  settled = u;
-  judged = h ∙ ap read_of (sym (header_short f.rest lt));
+short_partly : (head : Option Head) (rest : List ℕ) → IsJudgedAt head rest → length rest < needed head → front rest ≡ Partly
+short_partly None rest j lt = front_short rest lt
+short_partly (Some h) rest j lt = front_long rest j.0 ∙ ap (fronted rest) j.1 ∙ partly_short rest h lt
+
+short_judged : (head : Option Head) (rest : List ℕ) → IsJudgedAt head rest → length rest < needed head → head ≡ judged_front rest
+short_judged None rest j lt = ap read_of (sym (header_short rest lt))
+short_judged (Some h) rest j lt =
+    ap (λ (r : Result Head StreamFault). read_of (if_read r)) (sym j.1) ∙ ap read_of (sym (header_long rest j.0))
+
+-- ---- the bytes that are missing
+
+pub kept_needs : (need : ℕ) (f : Frames) → IsKept need f → 0 < need → Needs f
+kept_needs need f k h =
+    let l = k.lacks h in
+    let lt : length f.rest < needed f.head = omega (arith, l.short, h) in
+    record {
+      partly = short_partly f.head f.rest k.judged lt;
+      settled = l.settled;
+      judged = short_judged f.head f.rest k.judged lt;
+      going = l.going;
+    }
+
+pub kept_anew : (f : Frames) → IsJudgedAt f.head f.rest → IsKept 0 f
+kept_anew f j = record { judged = j; lacks = λ h. absurd (omega (arith, h)) }
+
+pub kept_settled : (need : ℕ) (f : Frames) → IsJudgedAt f.head f.rest → f.used ≡ 0 → f.stopped ≡ None → need ≡ needed f.head - length f.rest
+    → IsKept need f
+kept_settled need f j u e is = record {
+  judged = j;
+  lacks = λ h. record { short = omega (arith, is, h); settled = u; going = e };
 }
 
-pub needs_rest : (f : Frames) (h : Head) → f.head ≡ Some h → IsJudgedAt (Some h) f.rest → length f.rest < total h → f.used ≡ 0 → Needs f
-needs_rest f h e j lt u = record {
-  partly = front_long f.rest j.0 ∙ ap (fronted f.rest) j.1 ∙ partly_short f.rest h lt;
-  settled = u;
-  judged = e ∙ ap (λ (r : Result Head StreamFault). read_of (if_read r)) (sym j.1) ∙ ap read_of (sym (header_long f.rest j.0));
-}
-
-pub advances_needs : (f : Frames) → f.stopped ≡ None → Needs f → Advances (Ok None) f f
-advances_needs f e n = (passes_self f, n.partly, (e, n.settled, n.judged))
+pub advances_needs : (f : Frames) → Needs f → Advances (Ok None) f f
+advances_needs f n = (passes_self f, n.partly, (n.going, n.settled, n.judged))
 
 -- ---- one step
 
@@ -153,10 +172,22 @@ stands_fed f g piece fed given e s =
     })
 
 -- a header that was judged stays judged where bytes are appended
-pub judged_on : (head : Option Head) (rest piece : List ℕ) → IsJudgedAt head rest → IsJudgedAt head (rest ++ piece)
+judged_on : (head : Option Head) (rest piece : List ℕ) → IsJudgedAt head rest → IsJudgedAt head (rest ++ piece)
 judged_on None rest piece j = tt
 judged_on (Some h) rest piece j =
     (omega (arith, length-append rest piece), ap head_at (take-append-le 12 rest piece j.0) ∙ j.1, j.2)
+
+-- and fewer bytes are missing
+pub kept_on : (need left : ℕ) (f : Frames) (b c : Buffered) (piece : List ℕ) → IsKept need (record f { rest = b.unused; used = b.used })
+    → c ≡ record { unused = b.unused ++ piece; used = b.used } → left ≡ need - length piece → IsKept left (record f { rest = c.unused; used = c.used })
+kept_on need left f b c piece k fed is =
+    let P : Buffered → Type 0 = λ c. IsKept left (record f { rest = c.unused; used = c.used }) in
+    subst P (sym fed) (record {
+      judged = judged_on f.head b.unused piece k.judged;
+      lacks = λ h.
+          let l = k.lacks (omega (arith, is, h)) in
+          record { short = omega (arith, is, h, l.short, length-append b.unused piece); settled = l.settled; going = l.going };
+    })
 
 pub stands_stopped : (f : Frames) (piece fed : List ℕ) (given : List Received) (fault : StreamFault) → f.stopped ≡ Some fault
     → Stands f fed given → Stands f (fed ++ piece) given

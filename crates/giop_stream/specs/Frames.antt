@@ -1,9 +1,9 @@
 -- Where a framer stands in its stream, and what it keeps.
-use Rattle.std.specs.Prelude.{◌≡◌, ◌≤◌, ◌<◌, ℕ, List, [], ◌∷◌, ◌++◌, length, Option, Some, None, Result, Ok, Err}
+use Rattle.std.specs.Prelude.{◌≡◌, ◌≤◌, ◌<◌, ◌+◌, ℕ, List, [], ◌∷◌, ◌++◌, length, Option, Some, None, Result, Ok, Err}
 use Rattle.giop_messages.specs.declared.heads.Head.{Head}
 use Rattle.giop_stream.specs.declared.faults.StreamFault.{StreamFault}
 use Rattle.giop_stream.specs.Faults.{OnFault}
-use Rattle.giop_stream.specs.Fronts.{judged_front}
+use Rattle.giop_stream.specs.Fronts.{needed, judged_front, IsJudgedAt}
 use Rattle.giop_stream.specs.Parts.{Received, Begun}
 use Rattle.giop_stream.specs.Streams.{Streamed, Rest, Stops, behind, stops, stream_on, stream}
 
@@ -16,6 +16,17 @@ pub record Frames : Type 0 where
   pub stopped : Option StreamFault
   pub used : ℕ
   pub head : Option Head
+
+-- So many bytes at least are missing of what has begun at the front, and there is nothing to do before they come.
+pub record Lacks (need : ℕ) (f : Frames) : Type 0 where
+  pub short : length f.rest + need ≤ needed f.head
+  pub settled : f.used ≡ 0
+  pub going : f.stopped ≡ None
+
+-- the header that is kept was judged, and where bytes are said to be missing they are
+pub record IsKept (need : ℕ) (f : Frames) : Type 0 where
+  pub judged : IsJudgedAt f.head f.rest
+  pub lacks : 0 < need → Lacks need f
 
 abbrev pub goes_on : Frames → List ℕ → Option StreamFault → Streamed
 goes_on f more (Some fault) = stops fault

@@ -4,7 +4,7 @@ use Rattle.std.specs.Prelude.{◌≡◌, ◌≤◌, ℕ, ◌+◌, ◌%◌, ◌==
 use Rattle.giop_messages.specs.declared.faults.Why.TheVariants as causes
 use Rattle.giop_messages.specs.declared.heads.Head.{Head}
 use Rattle.giop_messages.specs.Heads.{head_in, more_in, flags_fit}
-use Rattle.giop_messages.specs.declared.heads.TheConstants.{MESSAGE_LIMIT}
+use Rattle.giop_messages.specs.declared.heads.TheConstants.{HEAD_LENGTH, MESSAGE_LIMIT}
 use Rattle.giop_stream.specs.declared.faults.StreamFault.{StreamFault}
 use Rattle.giop_stream.specs.declared.faults.StreamFault.TheVariants as faults
 use Rattle.giop_stream.specs.declared.fronts.Front.{Front}
@@ -13,7 +13,12 @@ use Rattle.giop_stream.specs.Faults.{told}
 
 -- the number of bytes of a message or part, with its header
 abbrev pub total : Head → ℕ
-total h = 12 + h.size
+total h = HEAD_LENGTH + h.size
+
+-- how many bytes are needed at the front: a header's, or, where it was judged, those that it says
+abbrev pub needed : Option Head → ℕ
+needed None = HEAD_LENGTH
+needed (Some h) = total h
 
 -- The header of a message of at most 1 MiB, whose flags fit its type; each part but the last of a message
 -- has a length that is a multiple of 8.
@@ -38,7 +43,7 @@ if_read (Err fault) = Err fault
 
 -- the header at the front of these bytes, if its twelve bytes are there
 abbrev pub header_at_front : List ℕ → Result (Option Head) StreamFault
-header_at_front bytes = if nat_lt (length bytes) 12 then Ok None else if_read (head_at (take 12 bytes))
+header_at_front bytes = if nat_lt (length bytes) HEAD_LENGTH then Ok None else if_read (head_at (take HEAD_LENGTH bytes))
 
 abbrev pub read_of : Result (Option Head) StreamFault → Option Head
 read_of (Ok head) = head
@@ -51,7 +56,7 @@ judged_front bytes = read_of (header_at_front bytes)
 -- this header was judged at the front of these bytes
 abbrev pub IsJudgedAt : Option Head → List ℕ → Type 0
 IsJudgedAt None bytes = Unit {0}
-IsJudgedAt (Some h) bytes = (12 ≤ length bytes) × (head_at (take 12 bytes) ≡ Ok h) × (total h ≤ MESSAGE_LIMIT)
+IsJudgedAt (Some h) bytes = (HEAD_LENGTH ≤ length bytes) × (head_at (take HEAD_LENGTH bytes) ≡ Ok h) × (total h ≤ MESSAGE_LIMIT)
 
 abbrev pub IsJudgedHead : Result (Option Head) StreamFault → List ℕ → Type 0
 IsJudgedHead (Ok head) bytes = IsJudgedAt head bytes
@@ -69,7 +74,7 @@ fronted bytes (Ok h) = if nat_lt (length bytes) (total h) then Partly else Whole
 
 -- what stands at the front: part of a message or less, a wrong header, or a whole message or part
 abbrev pub front : List ℕ → Front
-front bytes = if nat_lt (length bytes) 12 then Partly else fronted bytes (head_at (take 12 bytes))
+front bytes = if nat_lt (length bytes) HEAD_LENGTH then Partly else fronted bytes (head_at (take HEAD_LENGTH bytes))
 
 -- a whole message or part has at most 1 MiB, and all its bytes are there
 abbrev pub IsWithin : Front → List ℕ → Type 0

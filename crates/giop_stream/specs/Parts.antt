@@ -8,7 +8,7 @@ use Rattle.giop_messages.specs.declared.heads.Kind.{Kind}
 use Rattle.giop_messages.specs.declared.heads.Kind.TheVariants as kinds
 use Rattle.giop_messages.specs.declared.messages.Message.{Message}
 use Rattle.giop_messages.specs.Heads.{more_in}
-use Rattle.giop_messages.specs.declared.heads.TheConstants.{MESSAGE_LIMIT}
+use Rattle.giop_messages.specs.declared.heads.TheConstants.{HEAD_LENGTH, MESSAGE_LIMIT}
 use Rattle.cdr_codec.specs.Orders.{order_of}
 use Rattle.giop_messages.specs.Fields.{request_id}
 use Rattle.giop_messages.specs.Messages.{fields_in}
@@ -27,7 +27,7 @@ message_of h payload = told (fields_in h payload)
 
 -- the request id of a part, in the part's own byte order; it stands right behind the header
 unfoldable pub id_in : Order → List ℕ → Result ℕ StreamFault
-id_in order part = told (request_id.read (reader_at order 12 (drop 12 part)) >>= λ id. Ok id.0)
+id_in order part = told (request_id.read (reader_at order HEAD_LENGTH (drop HEAD_LENGTH part)) >>= λ id. Ok id.0)
 
 -- ---- begun messages
 
@@ -57,7 +57,7 @@ grown o rest = record { id = o.id; head = o.head; payload = o.payload ++ rest; s
 
 -- the number of bytes of the joined message, with its header, where this rest comes behind a begun one
 abbrev pub joined_size : Begun → List ℕ → ℕ
-joined_size o rest = 12 + length o.payload + length rest
+joined_size o rest = HEAD_LENGTH + length o.payload + length rest
 
 -- ---- what a whole message or part does
 
@@ -69,7 +69,7 @@ pub data Turn : Type 0 where
 
 -- a part out of turn
 abbrev pub out_of_turn : Turn
-out_of_turn = Fails (faults.Malformed causes.Open 12)
+out_of_turn = Fails (faults.Malformed causes.Open HEAD_LENGTH)
 
 abbrev pub gave : List Begun → Result Received StreamFault → Turn
 gave os (Ok m) = Gives m os
@@ -79,7 +79,7 @@ gave os (Err fault) = Fails fault
 abbrev pub opens : List Begun → Head → List ℕ → ℕ → Turn
 opens os h part id =
     if is_some (place_of id os) then out_of_turn
-    else (if nat_lt (length os) begun_limit then Joins (os ++ record { id = id; head = h; payload = drop 12 part; spent = length part } ∷ [])
+    else (if nat_lt (length os) begun_limit then Joins (os ++ record { id = id; head = h; payload = drop HEAD_LENGTH part; spent = length part } ∷ [])
     else out_of_turn)
 
 abbrev pub begins_by : List Begun → Head → List ℕ → Result ℕ StreamFault → Turn
@@ -127,7 +127,7 @@ is_fragment kinds.Fragment = true
 unfoldable pub turn : List Begun → Head → List ℕ → Turn
 turn os h part =
     if is_fragment h.kind then fragment os h part
-    else (if more_in h.flags then begins os h part else gave os (message_of h (drop 12 part)))
+    else (if more_in h.flags then begins os h part else gave os (message_of h (drop HEAD_LENGTH part)))
 
 -- ---- what a call did
 

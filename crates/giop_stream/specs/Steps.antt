@@ -47,6 +47,7 @@ pub record Needs (f : Frames) : Type 0 where
   pub partly : front f.rest ≡ Partly
   pub settled : f.used ≡ 0
   pub judged : f.head ≡ judged_front f.rest
+  pub going : f.stopped ≡ None
 
 abbrev pub IsWaiting : Frames → Type 0
 IsWaiting g = (g.stopped ≡ None) × (g.used ≡ 0) × (g.head ≡ judged_front g.rest)

@@ -20,7 +20,7 @@ const FRAGMENT_HEAD: usize = 16;
 
 const OUT_OF_TURN: StreamFault = StreamFault::Malformed {
     why: Why::Open,
-    place: 12,
+    place: HEAD_LENGTH as u32,
 };
 
 /// A begun message: its id, the header of its first part, what stands behind that with the rests of its
@@ -35,14 +35,14 @@ pub struct Opened {
 
 impl Model for Opened {
     ghost use Rattle.std.specs.Prelude.{◌≤◌, ◌+◌, vec_len};
-    ghost use Rattle.giop_messages.specs.declared.heads.TheConstants.{MESSAGE_LIMIT};
+    ghost use Rattle.giop_messages.specs.declared.heads.TheConstants.{HEAD_LENGTH, MESSAGE_LIMIT};
     ghost use Rattle.giop_stream.specs.Parts.{Begun};
 
     ghost Value = { Begun };
 
     ghost view = { λ o. record { id = o.id; head = o.head; payload = o.payload.items; spent = o.spent } };
 
-    ghost invariant = { λ o. 12 + vec_len o.payload ≤ MESSAGE_LIMIT };
+    ghost invariant = { λ o. HEAD_LENGTH + vec_len o.payload ≤ MESSAGE_LIMIT };
 }
 
 #[tactic(auto, unfolding(crate::specs::Parts::message_of))]
@@ -65,9 +65,9 @@ fn extend(bytes: &mut Vec<u8>, rest: &[u8]) -> Result<(), NoMemory>
 
 impl Opened {
     fn begin(alloc: Global, id: u32, head: Head, part: &[u8]) -> Result<Opened, NoMemory>
-        requires long { 12 ≤ length part.now }
+        requires long { HEAD_LENGTH ≤ length part.now }
         requires small { length part.now ≤ MESSAGE_LIMIT }
-        ensures { IfOk result (λ o. o ≡ record { id = id; head = head; payload = drop 12 part.now; spent = length part.now }) }
+        ensures { IfOk result (λ o. o ≡ record { id = id; head = head; payload = drop HEAD_LENGTH part.now; spent = length part.now }) }
     {
         let payload = Vec::from_slice(alloc, payload_of(part))?;
         Ok(Opened {
@@ -95,7 +95,7 @@ impl Opened {
 
     // with the header
     fn len(&self) -> usize
-        ensures value { result ≡ 12 + length self.now.payload }
+        ensures value { result ≡ HEAD_LENGTH + length self.now.payload }
         ensures small { result ≤ MESSAGE_LIMIT }
     {
         HEAD_LENGTH + self.payload.len()
@@ -129,20 +129,20 @@ impl Opened {
 
 /// What stands behind the header of a message or part.
 fn payload_of(part: &[u8]) -> &[u8]
-    requires { 12 ≤ length part.now }
-    ensures { result.now ≡ drop 12 part.now }
+    requires { HEAD_LENGTH ≤ length part.now }
+    ensures { result.now ≡ drop HEAD_LENGTH part.now }
 {
     &part[HEAD_LENGTH..]
 }
 
 #[tactic(auto, unfolding(crate::specs::Parts::id_in))]
 pub fn read_id(order: Order, part: &[u8]) -> Result<u32, StreamFault>
-    requires long { 12 ≤ length part.now }
+    requires long { HEAD_LENGTH ≤ length part.now }
     requires small { length part.now ≤ MESSAGE_LIMIT }
     ensures value { result ≡ id_in order part.now }
     ensures room { IfOk result (λ _. 16 ≤ length part.now) }
 {
-    let mut reader = CdrReader::new(order, 12, &part[HEAD_LENGTH..]);
+    let mut reader = CdrReader::new(order, HEAD_LENGTH as u32, &part[HEAD_LENGTH..]);
     match reader.read_u32() {
         Ok(id) => Ok(id),
         Err(wrong) => {
@@ -237,7 +237,7 @@ impl Partials {
 
     fn size(&self, at: usize) -> usize
         requires { at < length self.now }
-        ensures value { (o : Begun) → slice_get self.now at ≡ Some o → result ≡ 12 + length o.payload }
+        ensures value { (o : Begun) → slice_get self.now at ≡ Some o → result ≡ HEAD_LENGTH + length o.payload }
         ensures small { result ≤ MESSAGE_LIMIT }
     {
         self.items[at].len()
@@ -301,7 +301,7 @@ impl Partials {
         head: Head,
         part: &[u8],
     ) -> Result<Option<(Message, Order)>, StreamFault>
-        requires long { 12 ≤ length part.now }
+        requires long { HEAD_LENGTH ≤ length part.now }
         requires small { length part.now ≤ MESSAGE_LIMIT }
         ensures { Turned result self.old (begins self.old head part.now) self.new }
     {
@@ -359,7 +359,7 @@ impl Partials {
         head: Head,
         part: &[u8],
     ) -> Result<Option<(Message, Order)>, StreamFault>
-        requires long { 12 ≤ length part.now }
+        requires long { HEAD_LENGTH ≤ length part.now }
         requires small { length part.now ≤ MESSAGE_LIMIT }
         ensures { Turned result self.old (fragment self.old head part.now) self.new }
     {
@@ -379,7 +379,7 @@ impl Partials {
         head: Head,
         part: &[u8],
     ) -> Result<Option<(Message, Order)>, StreamFault>
-        requires long { 12 ≤ length part.now }
+        requires long { HEAD_LENGTH ≤ length part.now }
         requires small { length part.now ≤ MESSAGE_LIMIT }
         ensures { Turned result self.old (turn self.old head part.now) self.new }
     {

@@ -1,4 +1,4 @@
-ghost use Rattle.std.specs.Prelude.{◌≡◌, ◌≤◌, ◌↔◌, ◌+◌, IsTrue, [], ◌++◌, length, drop, vec_len, OnOk, OnErr};
+ghost use Rattle.std.specs.Prelude.{◌≡◌, ◌≤◌, ◌+◌, [], ◌++◌, length, drop, vec_len, OnOk, OnErr};
 ghost use Rattle.giop_stream.specs.Buffers.{MovesFew};
 
 use ft_base::NoMemory;
@@ -61,13 +61,6 @@ impl Buffer {
         ensures { result ≡ length self.now.unused }
     {
         self.bytes.len() - self.start
-    }
-
-    /// Whether no byte that was taken is kept.
-    pub fn is_settled(&self) -> bool
-        ensures { IsTrue result ↔ (self.now.used ≡ 0) }
-    {
-        self.start == 0
     }
 
     /// Takes bytes from the front. They are forgotten where the others can be moved in their place at no more

@@ -1,7 +1,7 @@
 //! The framer: it is fed the bytes of a link in any pieces, and gives its messages.
 ghost use Rattle.std.specs.Prelude.{◌≡◌, ◌≤◌, ℕ, List, [], ◌++◌, length, IsTrue, OnOk, OnErr, IfSome};
 ghost use Rattle.giop_messages.specs.declared.heads.TheConstants.{MESSAGE_LIMIT};
-ghost use Rattle.giop_stream.specs.Fronts.{total, header_at_front, fronted, front, IsJudgedAt, IsJudgedHead, IsUnjudged, IsWithin};
+ghost use Rattle.giop_stream.specs.Fronts.{total, needed, header_at_front, fronted, front, IsJudgedAt, IsJudgedHead, IsUnjudged, IsWithin};
 ghost use Rattle.giop_stream.specs.Parts.{Received};
 ghost use Rattle.giop_stream.specs.Streams.{Rest, stream};
 ghost use Rattle.giop_stream.specs.Tallies.{briefs, Left};
@@ -32,21 +32,33 @@ use std::marker::Model;
 pub struct Framer {
     alloc: Global,
     buffer: Buffer,
-    // The header at the front, once it was judged. It tells how many bytes are needed.
+    // The header at the front, once it was judged.
     head: Option<Head>,
+    // So many bytes are missing of what has begun at the front. Until they come there is nothing to do. It is 0 where
+    // that isn't known.
+    need: usize,
     partials: Partials,
     stopped: Option<StreamFault>,
 }
 
 impl Model for Framer {
-    ghost use Rattle.giop_stream.specs.Fronts.{IsJudgedAt};
-    ghost use Rattle.giop_stream.specs.Frames.{Frames};
+    ghost use Rattle.giop_stream.specs.Frames.{Frames, IsKept};
 
     ghost Value = { Frames };
 
     ghost view = { λ f. record { rest = f.buffer.unused; begun = f.partials; stopped = f.stopped; used = f.buffer.used; head = f.head } };
 
-    ghost invariant = { λ f. IsJudgedAt f.head f.buffer.unused };
+    ghost invariant = { λ f. IsKept f.need (record { rest = f.buffer.unused; begun = f.partials; stopped = f.stopped; used = f.buffer.used; head = f.head }) };
+}
+
+// How many bytes are needed at the front: a header's, or those that it says.
+fn needed(head: Option<Head>) -> usize
+    ensures { result ≡ needed head }
+{
+    match head {
+        None => HEAD_LENGTH,
+        Some(head) => HEAD_LENGTH + head.size as usize,
+    }
 }
 
 /// What one step over the front of the bytes did.
@@ -80,11 +92,13 @@ impl Framer {
         front_by(head, self.buffer.unused())
     }
 
+    #[tactic(auto, using(crate::proofs::FrameLaws::kept_anew))]
     fn keep(&mut self, head: Head)
         requires { IsJudgedAt (Some head) self.old.rest }
         ensures { self.new ≡ record self.old { head = Some head } }
     {
         self.head = Some(head);
+        self.need = 0;
     }
 
     fn look(&mut self) -> Front
@@ -102,25 +116,22 @@ impl Framer {
         }
     }
 
-    // Whether bytes are missing of what is begun at the front, whose header was judged, and nothing is to be
-    // forgotten.
-    #[tactic(auto, using(crate::proofs::FrameLaws::needs_header, crate::proofs::FrameLaws::needs_rest))]
+    // Whether bytes are missing of what has begun at the front.
+    #[tactic(auto, using(crate::proofs::FrameLaws::kept_needs))]
     fn needs_more(&self) -> bool
         ensures { IsTrue result → Needs self.now }
     {
-        let length = self.buffer.len();
-        let needed = match self.head {
-            None => HEAD_LENGTH,
-            Some(head) => HEAD_LENGTH + head.size as usize,
-        };
-        length < needed && self.buffer.is_settled()
+        self.need > 0
     }
 
     // Nothing whole is at the front.
+    #[tactic(auto, using(crate::proofs::FrameLaws::kept_settled))]
     fn settle(&mut self)
+        requires { self.old.stopped ≡ None }
         ensures { self.new ≡ record self.old { used = 0 } }
     {
         self.buffer.settle();
+        self.need = needed(self.head).saturating_sub(self.buffer.len());
     }
 
     fn stopped(&self) -> Option<StreamFault>
@@ -130,10 +141,12 @@ impl Framer {
     }
 
     // Keeps this fault, and nothing else.
+    #[tactic(auto, using(crate::proofs::FrameLaws::kept_anew))]
     fn forget(&mut self, fault: StreamFault)
         ensures { self.new ≡ stopped_at fault }
     {
         self.head = None;
+        self.need = 0;
         self.buffer.clear();
         self.partials.clear();
         self.stopped = Some(fault);
@@ -149,6 +162,7 @@ impl Framer {
     }
 
     /// Takes the whole message or part at the front.
+    #[tactic(auto, using(crate::proofs::FrameLaws::kept_anew))]
     fn take(&mut self, head: Head) -> Result<Option<(Message, Order)>, StreamFault>
         requires small { total head ≤ MESSAGE_LIMIT }
         requires within { total head ≤ length self.old.rest }
@@ -159,6 +173,7 @@ impl Framer {
         match self.partials.take(self.alloc, head, part) {
             Ok(message) => {
                 self.head = None;
+                self.need = 0;
                 self.buffer.skip(count);
                 Ok(message)
             }
@@ -211,7 +226,7 @@ impl Framer {
     }
 
     /// A framer of a link of which no byte has come. It takes no memory.
-    #[tactic(auto, using(crate::proofs::FrameLaws::stands_new))]
+    #[tactic(auto, using(crate::proofs::FrameLaws::stands_new, crate::proofs::FrameLaws::kept_anew))]
     pub fn new(alloc: Global) -> Framer
         ensures { Stands result [] [] }
     {
@@ -220,16 +235,19 @@ impl Framer {
             buffer: Buffer::new(alloc),
             partials: Partials::new(alloc),
             head: None,
+            need: 0,
             stopped: None,
         }
     }
 
-    #[tactic(auto, using(crate::proofs::FrameLaws::judged_on))]
+    #[tactic(auto, using(crate::proofs::FrameLaws::kept_on))]
     fn append(&mut self, piece: &[u8]) -> Result<(), NoMemory>
         ensures ok { OnOk result (self.new ≡ record self.old { rest = self.old.rest ++ piece.now }) }
         ensures err { OnErr result (self.new ≡ self.old) }
     {
-        self.buffer.append(piece)
+        self.buffer.append(piece)?;
+        self.need = self.need.saturating_sub(piece.len());
+        Ok(())
     }
 
     /// Feeds the next bytes of the link. After `NoMemory` it is as if they had not come. Once the link is
@@ -251,7 +269,7 @@ impl Framer {
     ///
     /// `NoMemory` is answered anew until there is memory, and loses nothing. Each other fault is answered
     /// for ever, whatever is fed: a link at fault can't be read on.
-    #[tactic(auto, using(crate::proofs::FrameLaws::has_next, crate::proofs::FrameLaws::next_stopped, crate::proofs::FrameLaws::advances_needs))]
+    #[tactic(auto, using(crate::proofs::FrameLaws::has_next, crate::proofs::FrameLaws::next_stopped))]
     pub fn next(&mut self) -> Result<Option<(Message, Order)>, StreamFault>
         ensures next { (fed : List ℕ) (given : List Received) → Stands self.old fed given → HasNext result fed given self.new }
         ensures spelled { OnGiven result IsSpelled }
@@ -259,15 +277,12 @@ impl Framer {
         ensures keeps { self.old.stopped ≡ None → Keeps result self.new }
         ensures again { IfSome self.old.stopped (λ fault. (result ≡ Err fault) × (self.new ≡ self.old)) }
     {
+        if self.needs_more() {
+            return Ok(None);
+        }
         match self.stopped() {
             Some(fault) => Err(fault),
-            None => {
-                if self.needs_more() {
-                    Ok(None)
-                } else {
-                    self.advance()
-                }
-            }
+            None => self.advance(),
         }
     }
 

@@ -40,7 +40,7 @@ fn judge(head: Head) -> Result<Head, StreamFault>
 
 #[tactic(auto, unfolding(crate::specs::Fronts::head_at))]
 fn judged_head(bytes: &[u8]) -> Result<Head, StreamFault>
-    requires { length bytes.now ≡ 12 }
+    requires { length bytes.now ≡ HEAD_LENGTH }
     ensures value { result ≡ head_at bytes.now }
     ensures small { IfOk result (λ h. total h ≤ MESSAGE_LIMIT) }
 {

@@ -96,7 +96,7 @@ impl Tally {
 impl Tally {
     /// A first part, with more to follow.
     fn begin(&mut self, head: Head, part: &[u8])
-        requires long { 12 ≤ length part.now }
+        requires long { HEAD_LENGTH ≤ length part.now }
         requires small { length part.now ≤ MESSAGE_LIMIT }
         ensures { self.new ≡ tally_first self.old part.now (id_in (order_of head.flags) part.now) }
     {
@@ -131,7 +131,7 @@ impl Tally {
     }
 
     fn fragment(&mut self, head: Head, part: &[u8])
-        requires long { 12 ≤ length part.now }
+        requires long { HEAD_LENGTH ≤ length part.now }
         requires small { length part.now ≤ MESSAGE_LIMIT }
         ensures { self.new ≡ tally_fragment self.old (more_in head.flags) part.now (id_in (order_of head.flags) part.now) }
     {
@@ -147,7 +147,7 @@ impl Tally {
     /// A whole message or part.
     #[tactic(auto, unfolding(crate::specs::Tallies::tally))]
     fn take(&mut self, head: Head, part: &[u8])
-        requires long { 12 ≤ length part.now }
+        requires long { HEAD_LENGTH ≤ length part.now }
         requires small { length part.now ≤ MESSAGE_LIMIT }
         ensures { self.new ≡ tally self.old head part.now }
     {

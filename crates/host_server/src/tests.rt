@@ -1,4 +1,4 @@
-ghost use Rattle.std.specs.Prelude.{◌≡◌, Some, IfOk};
+ghost use Rattle.std.specs.Prelude.{◌≡◌, ◌<◌, ◌^◌, Some, length, IfOk};
 ghost use Rattle.ft_base.specs.declared.requests.Par.TheVariants as pars;
 ghost use Rattle.cdr_codec.specs.declared.orders.Order.TheVariants.{Big};
 ghost use Rattle.sys_faults.specs.declared.faults.Completed.TheVariants.{No};
@@ -16,9 +16,27 @@ const FIVE_LITTLE: &str = "47494f50010201011400000007000000000000000000000005000
 
 const FIVE_BIG: &str = "47494f5001020001000000140000000100000000000000000000000000000005";
 
+// The text `ok`.
+const OK_LITTLE: &str = "47494f5001020101130000000a0000000000000000000000030000006f6b00";
+
+const OK_BIG: &str = "47494f5001020001000000130000000a0000000000000000000000036f6b00";
+
 const QUEUE_EMPTY: &str = concat!(
     "47494f500102000100000027000000090000000100000000",
     "0000001749444c3a6674632f5175657565456d7074793a312e3000",
+);
+
+// The longest name of a user exception.
+const LONG_NAME: &str = concat!(
+    "47494f50010200010000011c000000090000000100000000",
+    "0000010c49444c3a6674632f",
+    "6e6e6e6e6e6e6e6e6e6e6e6e6e6e6e6e6e6e6e6e6e6e6e6e6e6e6e6e6e6e6e6e6e6e6e6e6e6e6e6e6e6e6e6e6e6e6e6e6e6e",
+    "6e6e6e6e6e6e6e6e6e6e6e6e6e6e6e6e6e6e6e6e6e6e6e6e6e6e6e6e6e6e6e6e6e6e6e6e6e6e6e6e6e6e6e6e6e6e6e6e6e6e",
+    "6e6e6e6e6e6e6e6e6e6e6e6e6e6e6e6e6e6e6e6e6e6e6e6e6e6e6e6e6e6e6e6e6e6e6e6e6e6e6e6e6e6e6e6e6e6e6e6e6e6e",
+    "6e6e6e6e6e6e6e6e6e6e6e6e6e6e6e6e6e6e6e6e6e6e6e6e6e6e6e6e6e6e6e6e6e6e6e6e6e6e6e6e6e6e6e6e6e6e6e6e6e6e",
+    "6e6e6e6e6e6e6e6e6e6e6e6e6e6e6e6e6e6e6e6e6e6e6e6e6e6e6e6e6e6e6e6e6e6e6e6e6e6e6e6e6e6e6e6e6e6e6e6e6e6e",
+    "6e6e6e6e6e",
+    "3a312e3000",
 );
 
 const NO_GROUP: &str = concat!(
@@ -90,8 +108,16 @@ fn number(alloc: Global, n: i64) -> Result<Bytes, NoMemory>
     Ok(bytes)
 }
 
+fn text(alloc: Global) -> Result<Bytes, NoMemory>
+    ensures { IfOk result (IsResult (Some pars.Text)) }
+{
+    let text = Bytes::of(alloc, b"ok")?;
+    let bytes = canonical(alloc, &[Value::Text(text)])?;
+    Ok(bytes)
+}
+
 #[test]
-fn a_value_in_both_byte_orders(rt: HostRuntime) -> Result<(), NoMemory> {
+fn values_in_both_byte_orders(rt: HostRuntime) -> Result<(), NoMemory> {
     let alloc = rt.alloc();
     let answer = PortAnswer::Done {
         outcome: Outcome::Value(number(alloc, 5)?),
@@ -99,20 +125,35 @@ fn a_value_in_both_byte_orders(rt: HostRuntime) -> Result<(), NoMemory> {
     };
     assert!(rt; is_replied(alloc, 7, Order::Little, &answer, FIVE_LITTLE)?);
     assert!(rt; is_replied(alloc, 1, Order::Big, &answer, FIVE_BIG)?);
+    let answer = PortAnswer::Done {
+        outcome: Outcome::Value(text(alloc)?),
+        gives: Some(Par::Text),
+    };
+    assert!(rt; is_replied(alloc, 10, Order::Little, &answer, OK_LITTLE)?);
+    assert!(rt; is_replied(alloc, 10, Order::Big, &answer, OK_BIG)?);
     Ok(())
 }
 
+fn exception(alloc: Global, name: &[u8]) -> Result<PortAnswer, NoMemory>
+    requires { length name.now < 2 ^ 32 }
+    ensures { IfOk result (CanReply Big) }
+{
+    match Name::of(alloc, name) {
+        Ok(name) => Ok(PortAnswer::Done {
+            outcome: Outcome::User(name),
+            gives: Some(Par::I64),
+        }),
+        Err(_) => Err(NoMemory),
+    }
+}
+
 #[test]
-fn a_user_exception(rt: HostRuntime) -> Result<(), NoMemory> {
+fn user_exceptions(rt: HostRuntime) -> Result<(), NoMemory> {
     let alloc = rt.alloc();
-    let Ok(name) = Name::of(alloc, b"QueueEmpty") else {
-        return Err(NoMemory);
-    };
-    let answer = PortAnswer::Done {
-        outcome: Outcome::User(name),
-        gives: Some(Par::I64),
-    };
-    assert!(rt; is_replied(alloc, 9, Order::Big, &answer, QUEUE_EMPTY)?);
+    let queue_empty = exception(alloc, b"QueueEmpty")?;
+    let long = exception(alloc, &[b'n'; 255])?;
+    assert!(rt; is_replied(alloc, 9, Order::Big, &queue_empty, QUEUE_EMPTY)?);
+    assert!(rt; is_replied(alloc, 9, Order::Big, &long, LONG_NAME)?);
     Ok(())
 }
 

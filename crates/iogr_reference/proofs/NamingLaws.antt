@@ -9,9 +9,11 @@ use Rattle.std.proofs.lemmas.List.Elements.{All-head, All-tail, All-nil, All-con
 use Rattle.std.proofs.lemmas.Slice.Eq.{bytes_eq-Decides}
 use Rattle.cdr_codec.specs.declared.faults.CdrWhy.{CdrWhy}
 use Rattle.cdr_codec.specs.Reading.{Fault, ◌>>=◌}
+use Rattle.cdr_codec.specs.Calls.{Tells, Refuses}
 use Rattle.cdr_codec.specs.Values.{boolean}
 use Rattle.cdr_codec.specs.Encapsulations.{held}
 use Rattle.cdr_codec.proofs.Steps.{bind_ok, bind_goes, ok_is, err_ok}
+use Rattle.cdr_codec.proofs.CodecLaws.{told_found, told_refused}
 use Rattle.cdr_codec.proofs.ValueLaws.{boolean_codec}
 use Rattle.cdr_codec.proofs.EncapsulationLaws.{held_found, held_again}
 use Rattle.iogr_reference.specs.declared.choices.TheConstants.{PROFILE_LIMIT}
@@ -27,7 +29,7 @@ use Rattle.iogr_reference.specs.declared.faults.RefFault.TheVariants as refusals
 use Rattle.iogr_reference.specs.declared.insides.Mark.{Mark}
 use Rattle.iogr_reference.specs.Formats.{iiop, group_tag}
 use Rattle.iogr_reference.specs.Groups.{content_of, tag_inside, truth_inside, mark_of, Marked, marked, in_front, marked_with, iiops_of, is_tag, lacks_tag, unequal_place, primaries, primary_place, equal_tags, tag_among, tag_of, group_from, group_among, group_of, profile_key, key_inside}
-use Rattle.iogr_reference.specs.Faults.{ref_refusal, RefusedFor, Answers, OnRefusal, Refuses}
+use Rattle.iogr_reference.specs.Faults.{ref_refusal}
 use Rattle.iogr_reference.specs.Naming.{HasKey, NamesTag, TellsPrimary, IsMember, AreMembers, none, other, member, tag_in, NamesGroup}
 use Rattle.iogr_reference.proofs.Codecs.{iiop_codec, group_tag_codec}
 use Rattle.iogr_reference.proofs.GroupLemmas.{iiops_of-none, iiops_of-cons}
@@ -307,21 +309,16 @@ key_again p key h =
 
 -- ---- what the calls answer
 
-pub is_named : (r : Ior) (result : Result GroupRef RefFault) → Answers (λ g. g) ref_refusal result (group_of r) → IfOk result (NamesGroup r)
-is_named r (Ok g) e = group_found r g e
-is_named r (Err wrong) e = tt
+abbrev TellsGroup : Ior → Result GroupRef RefFault → Type 0
+TellsGroup r result = Tells (λ g. g) ref_refusal result (group_of r)
 
-not_both : {X E : Type 0} (q : Result X E) (wrong : E) (x : X) → q ≡ Err wrong → q ≡ Ok x → ⊥
-not_both q wrong x e d = err_ok x wrong (sym e ∙ d)
+pub is_named : (r : Ior) (result : Result GroupRef RefFault) → TellsGroup r result → IfOk result (NamesGroup r)
+is_named r result t = told_found (λ g. g) ref_refusal result (group_of r) (NamesGroup r) (group_found r) t
 
-unnamed_for : (r : Ior) (o : Option RefFault) → RefusedFor o (group_of r) → OnRefusal o ((g : GroupRef) → NamesGroup r g → ⊥)
-unnamed_for r None e = tt
-unnamed_for r (Some wrong) e = λ g n. not_both (group_of r) wrong g e (group_again r g n)
-
-pub is_unnamed : (r : Ior) (result : Result GroupRef RefFault) → Answers (λ g. g) ref_refusal result (group_of r)
-    → Refuses ref_refusal result ((g : GroupRef) → NamesGroup r g → ⊥)
-is_unnamed r (Ok g) e = tt
-is_unnamed r (Err wrong) e = unnamed_for r (ref_refusal wrong) e
+pub is_unnamed : (r : Ior) (result : Result GroupRef RefFault) → TellsGroup r result → Refuses ref_refusal result ((g : GroupRef) → NamesGroup r g → ⊥)
+is_unnamed r result t =
+    told_refused (λ g. g) ref_refusal result (group_of r) ((g : GroupRef) → NamesGroup r g → ⊥)
+    (λ wrong e g n. err_ok g wrong (sym e ∙ group_again r g n)) t
 
 key_is : (p : Profile) (o : Option (List ℕ)) → o ≡ profile_key p → IfSome o (HasKey p)
 key_is p None e = tt

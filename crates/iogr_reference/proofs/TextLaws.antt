@@ -11,11 +11,13 @@ use Rattle.hex.specs.declared.error.FromHexError.{FromHexError}
 use Rattle.cdr_codec.specs.declared.orders.Order.TheVariants.{Big}
 use Rattle.cdr_codec.specs.declared.faults.CdrWhy.{CdrWhy}
 use Rattle.cdr_codec.specs.Reading.{Fault, ◌>>=◌}
+use Rattle.cdr_codec.specs.Calls.{Tells, Refuses}
 use Rattle.cdr_codec.specs.Formats.{written_number, written_each, octets}
 use Rattle.cdr_codec.specs.Values.{text}
 use Rattle.cdr_codec.specs.Tagged.{IsCounted, IsNumbered}
 use Rattle.cdr_codec.specs.Encapsulations.{encapsulated, held}
 use Rattle.cdr_codec.proofs.Steps.{bind_ok, ok_is, err_ok}
+use Rattle.cdr_codec.proofs.CodecLaws.{told_found, told_refused}
 use Rattle.cdr_codec.proofs.ValueLaws.{text_valid}
 use Rattle.cdr_codec.proofs.EncapsulationLaws.{held_found, held_again, inside_written}
 use Rattle.iogr_reference.specs.declared.references.Ior.{Ior}
@@ -23,7 +25,7 @@ use Rattle.iogr_reference.specs.declared.references.Profile.{Profile}
 use Rattle.iogr_reference.specs.declared.faults.TextFault.{TextFault}
 use Rattle.iogr_reference.specs.declared.faults.TextFault.TheVariants as texts
 use Rattle.iogr_reference.specs.Octets.{AreBytes}
-use Rattle.iogr_reference.specs.Faults.{text_refusal, RefusedFor, Answers, OnRefusal, Refuses}
+use Rattle.iogr_reference.specs.Faults.{text_refusal}
 use Rattle.iogr_reference.specs.Formats.{profile, profile_parts, profiles, ior, IsWritable, AreCounted, AreNumbered}
 use Rattle.iogr_reference.specs.Texts.{text_of, has_prefix, octets_or_place, octets_in, ior_or_bad, ior_in_digits, ior_in_text}
 use Rattle.iogr_reference.specs.Naming.{SpellsReference}
@@ -131,18 +133,16 @@ text_found text r e =
       content = held_found ior ior_codec b.0 r (is_held (held ior b.0) r b.2);
     }
 
-pub is_spelled : (text : List ℕ) (result : Result Ior TextFault) → Answers (λ i. i) text_refusal result (ior_in_text text) → IfOk result (SpellsReference text)
-is_spelled bytes (Ok r) e = text_found bytes r e
-is_spelled bytes (Err wrong) e = tt
+abbrev TellsReference : List ℕ → Result Ior TextFault → Type 0
+TellsReference text result = Tells (λ i. i) text_refusal result (ior_in_text text)
 
-unspelled_for : (text : List ℕ) (o : Option TextFault) → RefusedFor o (ior_in_text text) → OnRefusal o ((r : Ior) → SpellsReference text r → ⊥)
-unspelled_for bytes None e = tt
-unspelled_for bytes (Some wrong) e = λ r s. err_ok r wrong (sym e ∙ text_again bytes r s)
+pub is_spelled : (text : List ℕ) (result : Result Ior TextFault) → TellsReference text result → IfOk result (SpellsReference text)
+is_spelled bytes result t = told_found (λ i. i) text_refusal result (ior_in_text bytes) (SpellsReference bytes) (text_found bytes) t
 
-pub is_unspelled : (text : List ℕ) (result : Result Ior TextFault) → Answers (λ i. i) text_refusal result (ior_in_text text)
-    → Refuses text_refusal result ((r : Ior) → SpellsReference text r → ⊥)
-is_unspelled bytes (Ok r) e = tt
-is_unspelled bytes (Err wrong) e = unspelled_for bytes (text_refusal wrong) e
+pub is_unspelled : (text : List ℕ) (result : Result Ior TextFault) → TellsReference text result → Refuses text_refusal result ((r : Ior) → SpellsReference text r → ⊥)
+is_unspelled bytes result t =
+    told_refused (λ i. i) text_refusal result (ior_in_text bytes) ((r : Ior) → SpellsReference bytes r → ⊥)
+    (λ wrong e r s. err_ok r wrong (sym e ∙ text_again bytes r s)) t
 
 -- the text that is written spells the reference
 pub text_spells : (r : Ior) → ior.Valid r → IsBytes (encapsulated Big ior r) → SpellsReference (text_of r) r

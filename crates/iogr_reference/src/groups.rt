@@ -1,10 +1,10 @@
 //! The group that a reference names.
 ghost use Rattle.std.specs.Prelude.{◌≡◌, ◌<◌, ◌≤◌, length, option_map, IfOk, IfSome, MatchResult, Ok};
 ghost use Rattle.std.specs.List.{list_any};
-ghost use Rattle.cdr_codec.specs.Calls.{field_fault, Tells};
+ghost use Rattle.cdr_codec.specs.Calls.{field_fault, Tells, Refuses};
 ghost use Rattle.iogr_reference.specs.Formats.{AreShort};
 ghost use Rattle.iogr_reference.specs.Groups.{marked, iiops_of, first_tag, is_tag, lacks_tag, unequal_place, primaries, primary_place, tag_of, group_among, group_of};
-ghost use Rattle.iogr_reference.specs.Faults.{ref_refusal, Answers, Refuses};
+ghost use Rattle.iogr_reference.specs.Faults.{ref_refusal};
 ghost use Rattle.iogr_reference.specs.Naming.{NamesGroup};
 ghost use Rattle.iogr_reference.specs.declared.references.GroupRef.{GroupRef as AGroup};
 ghost use Rattle.iogr_reference.specs.declared.insides.Mark.{Mark as AMark};
@@ -133,7 +133,7 @@ fn place_of_primary(marks: &[Mark]) -> Option<u16>
 
 fn group_with(alloc: Global, type_id: &Bytes, gathered: Gathered) -> Result<GroupRef, RefFault>
     requires { length gathered.iiops.items ≡ length gathered.marks.items }
-    ensures { Answers (λ g. g) ref_refusal result (group_among type_id.now (Ok (marked gathered.iiops.items gathered.marks.items))) }
+    ensures { Tells (λ g. g) ref_refusal result (group_among type_id.now (Ok (marked gathered.iiops.items gathered.marks.items))) }
 {
     let Gathered { iiops, marks } = gathered;
     let tag = judge(marks.as_slice())?;
@@ -151,7 +151,7 @@ fn group_with(alloc: Global, type_id: &Bytes, gathered: Gathered) -> Result<Grou
 
 fn group_in(alloc: Global, reference: &Ior) -> Result<GroupRef, RefFault>
     requires { AreShort reference.now.profiles }
-    ensures { Answers (λ g. g) ref_refusal result (group_of reference.now) }
+    ensures { Tells (λ g. g) ref_refusal result (group_of reference.now) }
 {
     let gathered = gather(alloc, reference.profiles.as_slice())?;
     group_with(alloc, &reference.type_id, gathered)
@@ -163,7 +163,7 @@ pub fn group_ref_of(alloc: Global, reference: &Ior) -> Result<GroupRef, RefFault
     requires { AreShort reference.now.profiles }
     ensures found { IfOk result (NamesGroup reference.now) }
     ensures refused { Refuses ref_refusal result ((group : AGroup) → NamesGroup reference.now group → ⊥) }
-    ensures value { Answers (λ g. g) ref_refusal result (group_of reference.now) }
+    ensures value { Tells (λ g. g) ref_refusal result (group_of reference.now) }
 {
     group_in(alloc, reference)
 }

@@ -2,11 +2,11 @@
 ghost use Rattle.std.specs.Prelude.{◌≡◌, ◌+◌, ◌<◌, ◌≤◌, ◌^◌, ◌∷◌, length, position, not, IfOk, IfSome, true};
 ghost use Rattle.hex.specs.Hex.{IsBytes, is_hex_digit};
 ghost use Rattle.cdr_codec.specs.declared.orders.Order.TheVariants as orders;
-ghost use Rattle.cdr_codec.specs.Calls.{field_fault, Tells};
+ghost use Rattle.cdr_codec.specs.Calls.{field_fault, Tells, Refuses};
 ghost use Rattle.cdr_codec.specs.Encapsulations.{encapsulated, held};
 ghost use Rattle.iogr_reference.specs.Formats.{ior, AreShort, IsWritable};
 ghost use Rattle.iogr_reference.specs.Texts.{text_of, is_either as is_one_of, has_prefix, digits_place as place_in, octets_in, ior_in_digits, ior_in_text};
-ghost use Rattle.iogr_reference.specs.Faults.{text_refusal, Answers, Refuses};
+ghost use Rattle.iogr_reference.specs.Faults.{text_refusal};
 ghost use Rattle.iogr_reference.specs.Naming.{SpellsReference};
 ghost use Rattle.iogr_reference.specs.declared.references.Ior.{Ior as AReference};
 
@@ -110,7 +110,7 @@ fn digits_place(digits: &[u8]) -> usize
 
 fn octets_of(alloc: Global, digits: &[u8]) -> Result<Vec<u8>, TextFault>
     requires { length digits.now < 2 ^ 32 }
-    ensures octets { Answers (λ octets. octets.items) text_refusal result (octets_in digits.now) }
+    ensures octets { Tells (λ octets. octets.items) text_refusal result (octets_in digits.now) }
     ensures short { IfOk result (λ octets. length octets.items + 8 < 2 ^ 32) }
 {
     match hex::decode(alloc, digits) {
@@ -131,7 +131,7 @@ fn ior_inside(alloc: Global, content: &[u8]) -> Result<Ior, IorFault>
 
 fn ior_of_digits(alloc: Global, digits: &[u8]) -> Result<Ior, TextFault>
     requires { length digits.now < 2 ^ 32 }
-    ensures read { Answers (λ i. i) text_refusal result (ior_in_digits digits.now) }
+    ensures read { Tells (λ i. i) text_refusal result (ior_in_digits digits.now) }
     ensures short { IfOk result (λ i. AreShort i.profiles) }
 {
     let octets = octets_of(alloc, digits)?;
@@ -144,7 +144,7 @@ fn ior_of_digits(alloc: Global, digits: &[u8]) -> Result<Ior, TextFault>
 
 fn ior_of_text(alloc: Global, text: &[u8]) -> Result<Ior, TextFault>
     requires { length text.now < 2 ^ 32 }
-    ensures read { Answers (λ i. i) text_refusal result (ior_in_text text.now) }
+    ensures read { Tells (λ i. i) text_refusal result (ior_in_text text.now) }
     ensures short { IfOk result (λ i. AreShort i.profiles) }
 {
     if !begins(text) {
@@ -159,7 +159,7 @@ pub fn from_text(alloc: Global, text: &[u8]) -> Result<Ior, TextFault>
     requires { length text.now < 2 ^ 32 }
     ensures found { IfOk result (SpellsReference text.now) }
     ensures refused { Refuses text_refusal result ((reference : AReference) → SpellsReference text.now reference → ⊥) }
-    ensures read { Answers (λ i. i) text_refusal result (ior_in_text text.now) }
+    ensures read { Tells (λ i. i) text_refusal result (ior_in_text text.now) }
     ensures short { IfOk result (λ i. AreShort i.profiles) }
 {
     ior_of_text(alloc, text)

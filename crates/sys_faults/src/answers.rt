@@ -2,7 +2,7 @@ use crate::faults::SysFault;
 use ft_base::{Outcome, Version};
 
 /// What a host answers to a request.
-#[derive(Drop)]
+#[derive(Debug, Drop)]
 pub enum Answer {
     /// The request's one outcome.
     Done(Outcome),

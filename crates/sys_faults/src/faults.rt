@@ -13,7 +13,7 @@ pub enum Completed {
 }
 
 /// Which of the standard exceptions it is.
-#[derive(Drop)]
+#[derive(Debug, Drop)]
 pub enum SysKind {
     ObjectNotExist,
     BadContext,
@@ -33,7 +33,7 @@ pub enum SysKind {
 }
 
 /// A system exception. Its minor code tells causes of one exception apart.
-#[derive(Drop)]
+#[derive(Debug, Drop)]
 pub struct SysFault {
     pub kind: SysKind,
     pub minor: u32,

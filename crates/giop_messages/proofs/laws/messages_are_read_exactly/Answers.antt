@@ -1,8 +1,11 @@
+use Rattle.giop_messages.proofs.Codecs.{reference_codecs}
 use Rattle.giop_messages.proofs.MessageLaws.{message_found, message_again, spelled_once}
 use Rattle.giop_messages.proofs.laws.messages_are_read_exactly.Goals as goal
 
 pub returns : goal.returns
-returns c = record {
-  exactly = λ bytes message order. (message_found bytes message order, message_again bytes message order);
-  once = spelled_once;
-}
+returns c =
+    let laws = reference_codecs c.references_are_codecs.ensures.each_profile c.references_are_codecs.ensures.references in
+    record {
+      exactly = λ bytes message order. (message_found laws bytes message order, message_again laws bytes message order);
+      once = spelled_once laws;
+    }

@@ -1,6 +1,6 @@
 use Rattle.std.proofs.Common.{◌≡◌, ◌^◌, ◌<◌, take}
 use Rattle.std.specs.Str.Parse.{digits_value}
-use Rattle.fault_script.proofs.numerals.digits_value.Given as goal
+use Rattle.decimal_numbers.proofs.numbers.digits_value.Given as goal
 
 -- the digits so far
 abbrev pub invariant-loop-byte : goal.invariant-loop-byte

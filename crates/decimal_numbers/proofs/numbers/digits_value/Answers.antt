@@ -1,7 +1,7 @@
 use Rattle.std.proofs.Common.{◌<◌, length, arith}
 use Rattle.std.proofs.lemmas.Int.Digits.{digits_value_more}
-use Rattle.fault_script.proofs.NumberLemmas.{one_digit_more}
-use Rattle.fault_script.proofs.numerals.digits_value.Goals as goal
+use Rattle.decimal_numbers.proofs.NumberLemmas.{one_digit_more}
+use Rattle.decimal_numbers.proofs.numbers.digits_value.Goals as goal
 
 pub loop-byte-preserved : goal.loop-byte-preserved
 loop-byte-preserved c =
