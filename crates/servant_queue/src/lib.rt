@@ -2,6 +2,7 @@
 //! were pushed.
 #![tactic(auto)]
 
+mod arguments;
 mod contents;
 mod operations;
 mod queues;

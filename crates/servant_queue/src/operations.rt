@@ -1,11 +1,9 @@
 ghost use Rattle.std.specs.Prelude.{◌≡◌, ◌≤◌, ◌<◌, ◌^◌, ℕ, [], ◌∷◌, None, length, IfOk};
-ghost use Rattle.ft_base.specs.Canonical.{IsCanonical};
 ghost use Rattle.ft_base.specs.Canonical as canonical;
 ghost use Rattle.ft_base.specs.Text.{name_refusal};
 ghost use Rattle.ft_base.specs.declared.requests.Outcome.TheVariants.{Value, User};
-ghost use Rattle.ft_base.specs.declared.requests.Par.TheVariants.{Octets};
 ghost use Rattle.servant_queue.specs.Operations.{operation_of, signature_of};
-ghost use Rattle.servant_queue.specs.Queue.{item_of, told};
+ghost use Rattle.servant_queue.specs.Queue.{told};
 
 use cdr_codec::{CdrWriter, Order};
 use ft_base::{Bytes, Name, NameFault, NoMemory, Outcome, Par, Signature};
@@ -87,12 +85,4 @@ pub fn tell_item(alloc: Global, item: &[u8]) -> Result<Outcome, NoMemory>
     let mut writer = CdrWriter::new(alloc, Order::Big, 0);
     writer.write_octets(item)?;
     Ok(Outcome::Value(writer.finish()))
-}
-
-/// The octets that arguments say.
-pub fn item_in(args: &Bytes) -> &[u8]
-    requires { IsCanonical (Octets ∷ []) args.now }
-    ensures { result.now ≡ item_of args.now }
-{
-    &args.bytes()[4..]
 }

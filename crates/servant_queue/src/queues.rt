@@ -6,10 +6,11 @@ ghost use Rattle.servant_queue.specs.Laws.{owes};
 ghost use Rattle.servant_queue.specs.Operations.{signature_of};
 ghost use Rattle.servant_queue.specs.Queue.{IsContents, advanced, contents_in, kept, popped_from, pushed, queue_machine, ran, spelled, state_of};
 
+use crate::arguments::item_in;
 use crate::contents::{
     ITEM_LIMIT, ITEM_SIZE, Item, POPPED_LIMIT, advance, contents_of, copied, spell,
 };
-use crate::operations::{Operation, item_in, refusal, tell_item, tell_length};
+use crate::operations::{Operation, refusal, tell_item, tell_length};
 use ft_base::{
     Bytes, Name, NoMemory, Outcome, Request, Servant, Signature, StateFault, Steps, UpdateFault,
 };
@@ -176,10 +177,14 @@ impl Queue {
         ensures before { IsContents self.old }
         ensures after { IsContents self.new }
     {
+        let length = self.length();
         match operation {
-            Operation::Push => self.push(alloc, item_in(args)),
+            Operation::Push => {
+                let item = item_in(alloc, args)?;
+                self.push(alloc, item.bytes())
+            }
             Operation::Pop => self.pop(alloc),
-            Operation::Length => tell_length(alloc, self.length()),
+            Operation::Length => tell_length(alloc, length),
         }
     }
 }

@@ -1,3 +1,4 @@
 pub mod MapLaws
 pub mod Said
 pub mod States
+pub mod ArgumentLaws

@@ -1,5 +1,5 @@
 -- Maps as lists of pairs.
-use Rattle.std.proofs.Common.{◌≡◌, ℕ, zero, suc, ◌+◌, ◌-◌, ◌<◌, ◌≤◌, Bool, true, false, ◌&&◌, not, cond, List, [], ◌∷◌, ◌++◌, length, drop, Option, Some, None, option_map, Bor, refl, ap, sym, ◌∙◌, append_assoc, arith}
+use Rattle.std.proofs.Common.{◌≡◌, ℕ, zero, suc, ◌+◌, ◌-◌, ◌<◌, ◌≤◌, Bool, true, false, not, cond, List, [], ◌∷◌, ◌++◌, length, drop, Option, Some, None, option_map, Bor, refl, ap, sym, ◌∙◌, append_assoc, arith}
 use Rattle.std.specs.Prelude.{is_some}
 use Rattle.std.specs.BTreeMap.{insert_entry, is_at}
 use Rattle.std.specs.Map.{lookup, remove_entry}
@@ -11,8 +11,9 @@ use Rattle.std.specs.Ordering.{eq_by_cmp, is_eq, match_ordering, nat_cmp}
 use Rattle.std.specs.declared.cmp.Ordering.{Ordering}
 use Rattle.std.specs.declared.cmp.Ordering.TheVariants.{Less, Equal, Greater}
 use Rattle.std.specs.declared.vec.Vec.{Vec}
+use Rattle.std.proofs.lemmas.Bool.{and_parts}
 use Rattle.std.proofs.lemmas.List.{append-nil}
-use Rattle.servant_store.specs.Laws.{below_kept}
+use Rattle.servant_store.specs.PairLaws.{below_kept}
 use Rattle.servant_store.specs.Store.{Pairs, behind_key, behind_value, key_in, keys_in, order, pairs_in, rises, value_in, without_key}
 use Rattle.servant_store.specs.Views.{keys_of, pairs_of, put_all}
 
@@ -51,7 +52,7 @@ module _ {A B : Type 0} where
       → pairs_of (remove_entry (is_at (λ (k : Vec ℕ A). slice_cmp nat_cmp key k.items)) es) ≡ without_key key (pairs_of es)
   removed_view key [] h = refl
   removed_view key (e ∷ es) h =
-      let each = both (below_all order e.0.items (pairs_of es)) (is_sorted order (pairs_of es)) h in
+      let each = and_parts (below_all order e.0.items (pairs_of es)) (is_sorted order (pairs_of es)) h in
       let rest = removed_view key es each.1 in
       let go : (b : Bool) → eq_by_cmp order key e.0.items ≡ b
       → pairs_of (cond b es (e ∷ remove_entry (is_at (λ (k : Vec ℕ A). slice_cmp nat_cmp key k.items)) es))
@@ -61,10 +62,6 @@ module _ {A B : Type 0} where
         | false ↦ λ f. ap (λ (s : Pairs). (e.0.items, e.1.items) ∷ s) rest
       ] in
       go (eq_by_cmp order key e.0.items) refl
-    where
-      both : (a b : Bool) → (a && b) ≡ true → (a ≡ true) × (b ≡ true)
-      both true b h = (refl, h)
-      both false b h = absurd cc
 
 pub copied_items : {B : Type 0} (o : Option (Bor (Vec ℕ B))) → option_map (λ (v : Bor (Vec ℕ B)). v.now.items) o ≡ option_map (λ (v : Vec ℕ B). v.items) (option_copied o)
 copied_items None = refl

@@ -5,18 +5,15 @@ use Rattle.std.specs.FinMap.{find, is_sorted}
 use Rattle.std.specs.List.{flat_map, list_all}
 use Rattle.std.specs.Str.{bytes_eq}
 use Rattle.std.proofs.Math.Nat.{lt_of_le_of_lt}
-use Rattle.std.proofs.lemmas.Bool.{lt-ltb, le-ltb}
+use Rattle.std.proofs.lemmas.Bool.{and_parts, lt-ltb, le-ltb}
 use Rattle.std.proofs.lemmas.List.{append-nil}
 use Rattle.std.proofs.lemmas.Slice.Eq.{bytes_eq-Decides}
 use Rattle.byteorder.specs.Endian.{big_bytes, big_number}
 use Rattle.byteorder.specs.Numbers.{big_number-reads_back}
-use Rattle.servant_store.specs.Laws.{change_found, change_says, changed_is, changed_store, keys_back, pairs_back, pairs_found, pairs_say, put_all_ordered, put_all_same, read_back}
+use Rattle.servant_store.specs.Laws.{change_found, change_says, changed_is, changed_store, keys_back, pairs_back, pairs_found, pairs_say, read_back}
+use Rattle.servant_store.specs.PairLaws.{put_all_ordered, put_all_same}
 use Rattle.servant_store.specs.Store.{Change, IsChange, IsStore, Pairs, advanced, behind_key, change_said, changed, is_key, is_pair, keys_in, order, pairs_in, pairs_said, read, rises, spelled, spelled_change, spelled_key, spelled_pair}
 use Rattle.servant_store.specs.Views.{out_all, put_all}
-
-both : (a b : Bool) → (a && b) ≡ true → (a ≡ true) × (b ≡ true)
-both true b h = (refl, h)
-both false b h = absurd cc
 
 clash : (b : Bool) → b ≡ true → b ≡ false → ⊥
 clash b h k = cc
@@ -174,9 +171,9 @@ module _ (s : List ℕ) (count : ℕ) (gone : List (List ℕ)) (rest : List ℕ)
 
   pub change_sound : count ≤ 256 → length gone ≡ count → pairs ≤ 256 → length set ≡ pairs → in_form gone set ≡ true → IsChange (record { gone = gone; set = set })
   change_sound few long few_pairs long_set form =
-      let last = both ((rises gone && list_all is_key gone) && list_all is_pair set) (list_all (λ key. not (is_some (find order key set))) gone) form in
-      let second = both (rises gone && list_all is_key gone) (list_all is_pair set) last.0 in
-      let first = both (rises gone) (list_all is_key gone) second.0 in
+      let last = and_parts ((rises gone && list_all is_key gone) && list_all is_pair set) (list_all (λ key. not (is_some (find order key set))) gone) form in
+      let second = and_parts (rises gone && list_all is_key gone) (list_all is_pair set) last.0 in
+      let first = and_parts (rises gone) (list_all is_key gone) second.0 in
       record {
         rising = first.0;
         few = omega (arith, few, long);
@@ -192,10 +189,10 @@ module _ (s : List ℕ) (count : ℕ) (gone : List (List ℕ)) (rest : List ℕ)
 -- what form gives alone
 pub form_keys : (gone : List (List ℕ)) (set : Pairs) → in_form gone set ≡ true → list_all is_key gone ≡ true
 form_keys gone set form =
-    (both (rises gone) (list_all is_key gone) (both (rises gone && list_all is_key gone) (list_all is_pair set) (both ((rises gone && list_all is_key gone) && list_all is_pair set) _ form).0).0).1
+    (and_parts (rises gone) (list_all is_key gone) (and_parts (rises gone && list_all is_key gone) (list_all is_pair set) (and_parts ((rises gone && list_all is_key gone) && list_all is_pair set) _ form).0).0).1
 
 pub form_pairs : (gone : List (List ℕ)) (set : Pairs) → in_form gone set ≡ true → list_all is_pair set ≡ true
-form_pairs gone set form = (both (rises gone && list_all is_key gone) (list_all is_pair set) (both ((rises gone && list_all is_key gone) && list_all is_pair set) _ form).0).1
+form_pairs gone set form = (and_parts (rises gone && list_all is_key gone) (list_all is_pair set) (and_parts ((rises gone && list_all is_key gone) && list_all is_pair set) _ form).0).1
 
 pub change_is_said : (s again : List ℕ) (c : Change) → IsChange c → again ≡ spelled_change c → bytes_eq again s ≡ true → Some c ≡ change_said s
 change_is_said s again c good spells h =

@@ -1,24 +1,20 @@
 -- The store keeps the laws of a servant: what it owes over pairs.
-use Rattle.std.proofs.Common.{◌≡◌, ℕ, suc, ◌+◌, ◌*◌, ◌^◌, ◌<◌, ◌≤◌, Bool, true, false, ◌&&◌, ◌||◌, not, nat_lt, nat_le, if◌then◌else◌, cond, List, [], ◌∷◌, ◌++◌, length, take, drop, map, Option, Some, None, option_map, codes, refl, ap, sym, subst, ◌∙◌, arith, lit<, lit≤}
-use Rattle.std.specs.Prelude.{slice_index, is_some, T}
-use Rattle.std.specs.Cmp.{eq_by_cmp_equiv, tied_itself}
+use Rattle.std.proofs.Common.{◌≡◌, ℕ, suc, ◌*◌, ◌^◌, ◌<◌, ◌≤◌, Bool, true, false, ◌&&◌, ◌||◌, not, nat_lt, nat_le, if◌then◌else◌, cond, List, [], ◌∷◌, ◌++◌, length, take, drop, map, Option, Some, None, option_map, codes, refl, ap, sym, subst, ◌∙◌, arith, lit<, lit≤}
+use Rattle.std.specs.Prelude.{slice_index, is_some}
 use Rattle.std.specs.Cmp.Lexicographic.{nat_list_cmp_total}
-use Rattle.std.specs.FinMap.{find, put, is_sorted, slice_cmp-IsAntisymmetric, nat_cmp-IsAntisymmetric}
-use Rattle.std.specs.FinMap.Entries.{by_order, below_all, is_sorted-put, find-put, find-where_key, length-put, same_entries}
+use Rattle.std.specs.FinMap.{find, put, is_sorted}
+use Rattle.std.specs.FinMap.Entries.{below_all, same_entries}
 use Rattle.std.specs.List.{filter, flat_map, list_all, list_any}
-use Rattle.std.specs.declared.cmp.Ordering.{Ordering}
-use Rattle.std.specs.Ordering.{eq_by_cmp, is_eq, is_lt, ordering_reverse}
-use Rattle.std.specs.declared.cmp.Ordering.TheVariants.{Less, Equal, Greater}
+use Rattle.std.specs.Ordering.{eq_by_cmp, is_lt}
 use Rattle.std.specs.Str.{bytes_eq}
 use Rattle.std.proofs.Math.Nat.{lt_of_le_of_lt}
-use Rattle.std.proofs.lemmas.Bool.{leb-true, leb-false, le-leb, ltb-false, le-ltb}
+use Rattle.std.proofs.lemmas.Bool.{and_from, and_parts, leb-true, leb-false, le-leb, ltb-false, le-ltb}
 use Rattle.std.proofs.lemmas.List.{append-nil, append_assoc, drop_at, take_at, length-append}
 use Rattle.std.proofs.lemmas.Slice.Eq.{bytes_eq-Decides}
 use Rattle.byteorder.specs.Endian.{big_bytes, big_number}
 use Rattle.byteorder.specs.Numbers.{big_number-reads_back}
 use Rattle.ft_base.specs.Canonical.{number_at, octets_at}
 use Rattle.ft_base.specs.Coding.{IsCoding}
-use Rattle.ft_base.specs.CodingLaws as codings
 use Rattle.servant_store.specs.Sayings as sayings
 use Rattle.ft_base.specs.Machine.{FitsAs, IsGivenAs}
 use Rattle.ft_base.specs.Text.{IsName}
@@ -26,52 +22,39 @@ use Rattle.ft_base.specs.declared.requests.Outcome.{Outcome}
 use Rattle.ft_base.specs.declared.requests.Outcome.TheVariants.{Value, User}
 use Rattle.servant_store.specs.Operations.{operation_of, signature_of}
 use Rattle.servant_store.specs.Store.{Change, IsChange, IsStore, Pairs, advanced, behind_key, behind_value, change_said, changed, found, getting, is_change, is_key, is_pair, is_same, is_store, is_value, key_in, key_of, keys_in, order, pairs_in, pairs_said, putting, ran, read, read_change, removing, rises, rises_from, since, spelled, spelled_change, spelled_key, spelled_pair, store, told, value_in, value_of, was_put, with_pairs, without, without_key}
+use Rattle.servant_store.specs.PairLaws.{among, eq_key, eq_self, filter_few, filter_ordered, filter_store, find_filter, find_with, find_without, found_sound, kept, or_else, out_all_is, out_all_ordered, put_all_is, put_store, same_key, so, with_ordered, with_sound, without_ordered, without_sound}
 use Rattle.servant_store.specs.Views.{put_all, out_all}
 use Rattle.servant_store.specs.declared.operations.Operation.{Operation}
 use Rattle.servant_store.specs.declared.operations.Operation.TheVariants.{Put, Get, Remove, Size}
-
-both : (a b : Bool) → (a && b) ≡ true → (a ≡ true) × (b ≡ true)
-both true b h = (refl, h)
-both false b h = absurd cc
-
-joined : (a b : Bool) → a ≡ true → b ≡ true → (a && b) ≡ true
-joined a b h k = ap (λ c. c && b) h ∙ k
-
-so : (b : Bool) → b ≡ true → T b
-so b e = subst T (sym e) tt
-
-holds : (b : Bool) → T b → b ≡ true
-holds true h = refl
-holds false h = absurd h
 
 -- ---- a store and a change by their parts
 
 pub parts : (s : Pairs) → is_store s ≡ true → IsStore s
 parts s h =
-    let first = both (is_sorted order s) (nat_le (length s) 256 && list_all is_pair s) h in
-    let second = both (nat_le (length s) 256) (list_all is_pair s) first.1 in
+    let first = and_parts (is_sorted order s) (nat_le (length s) 256 && list_all is_pair s) h in
+    let second = and_parts (nat_le (length s) 256) (list_all is_pair s) first.1 in
     record { ordered = first.0; few = leb-true (length s) 256 second.0; sound = second.1 }
 
 pub whole : (s : Pairs) → IsStore s → is_store s ≡ true
-whole s h = joined (is_sorted order s) _ h.ordered (joined (nat_le (length s) 256) (list_all is_pair s) (le-leb (length s) 256 h.few) h.sound)
+whole s h = and_from (is_sorted order s) _ h.ordered (and_from (nat_le (length s) 256) (list_all is_pair s) (le-leb (length s) 256 h.few) h.sound)
 
 pub change_parts : (c : Change) → is_change c ≡ true → IsChange c
 change_parts c h =
-    let first = both (rises c.gone && (nat_le (length c.gone) 256 && list_all is_key c.gone)) (is_store c.set && list_all (λ key. not (is_some (find order key c.set))) c.gone) h in
-    let gone = both (rises c.gone) (nat_le (length c.gone) 256 && list_all is_key c.gone) first.0 in
-    let keys = both (nat_le (length c.gone) 256) (list_all is_key c.gone) gone.1 in
-    let set = both (is_store c.set) (list_all (λ key. not (is_some (find order key c.set))) c.gone) first.1 in
+    let first = and_parts (rises c.gone && (nat_le (length c.gone) 256 && list_all is_key c.gone)) (is_store c.set && list_all (λ key. not (is_some (find order key c.set))) c.gone) h in
+    let gone = and_parts (rises c.gone) (nat_le (length c.gone) 256 && list_all is_key c.gone) first.0 in
+    let keys = and_parts (nat_le (length c.gone) 256) (list_all is_key c.gone) gone.1 in
+    let set = and_parts (is_store c.set) (list_all (λ key. not (is_some (find order key c.set))) c.gone) first.1 in
     record { rising = gone.0; few = leb-true (length c.gone) 256 keys.0; keys = keys.1; set = parts c.set set.0; apart = set.1 }
 
 pub change_whole : (c : Change) → IsChange c → is_change c ≡ true
 change_whole c h =
-    joined (rises c.gone && (nat_le (length c.gone) 256 && list_all is_key c.gone)) (is_store c.set && list_all (λ key. not (is_some (find order key c.set))) c.gone)
-    (joined (rises c.gone) (nat_le (length c.gone) 256 && list_all is_key c.gone) h.rising
-    (joined (nat_le (length c.gone) 256) (list_all is_key c.gone) (le-leb (length c.gone) 256 h.few) h.keys))
-    (joined (is_store c.set) (list_all (λ key. not (is_some (find order key c.set))) c.gone) (whole c.set h.set) h.apart)
+    and_from (rises c.gone && (nat_le (length c.gone) 256 && list_all is_key c.gone)) (is_store c.set && list_all (λ key. not (is_some (find order key c.set))) c.gone)
+    (and_from (rises c.gone) (nat_le (length c.gone) 256 && list_all is_key c.gone) h.rising
+    (and_from (nat_le (length c.gone) 256) (list_all is_key c.gone) (le-leb (length c.gone) 256 h.few) h.keys))
+    (and_from (is_store c.set) (list_all (λ key. not (is_some (find order key c.set))) c.gone) (whole c.set h.set) h.apart)
 
 key_sizes : (key : List ℕ) → is_key key ≡ true → length key ≤ 64
-key_sizes key h = leb-true (length key) 64 (both (nat_le (length key) 64) _ (both (nat_lt 0 (length key)) _ h).1).0
+key_sizes key h = leb-true (length key) 64 (and_parts (nat_le (length key) 64) _ (and_parts (nat_lt 0 (length key)) _ h).1).0
 
 pub value_size : (value : List ℕ) → is_value value ≡ true → length value ≤ 256
 value_size value h = leb-true (length value) 256 h
@@ -95,8 +78,8 @@ pub pairs_back : (s : Pairs) (more : List ℕ) → list_all is_pair s ≡ true �
 unfolding pairs_in
 pairs_back [] more h = refl
 pairs_back (pair ∷ s) more h =
-    let each = both (is_pair pair) (list_all is_pair s) h in
-    let sizes = both (is_key pair.0) (is_value pair.1) each.0 in
+    let each = and_parts (is_pair pair) (list_all is_pair s) h in
+    let sizes = and_parts (is_key pair.0) (is_value pair.1) each.0 in
     let value : List ℕ = big_bytes 2 (length pair.1) ++ pair.1 in
     let rest : List ℕ = flat_map spelled_pair s ++ more in
     let regrouped : flat_map spelled_pair (pair ∷ s) ++ more ≡ spelled_key pair.0 ++ ((big_bytes 2 (length pair.1) ++ pair.1) ++ (flat_map spelled_pair s ++ more)) =
@@ -115,7 +98,7 @@ pub keys_back : (keys : List (List ℕ)) (more : List ℕ) → list_all is_key k
 unfolding keys_in
 keys_back [] more h = refl
 keys_back (key ∷ keys) more h =
-    let each = both (is_key key) (list_all is_key keys) h in
+    let each = and_parts (is_key key) (list_all is_key keys) h in
     let back = key_back key (flat_map spelled_key keys ++ more) (key_sizes key each.0) in
     ap (keys_in (suc (length keys))) (append_assoc (spelled_key key) (flat_map spelled_key keys) more)
     ∙ ap (λ k. let r = keys_in (length keys) (behind_key (spelled_key key ++ (flat_map spelled_key keys ++ more))) in (k ∷ r.0, r.1)) back.0
@@ -153,7 +136,7 @@ key_length key h = let few = key_sizes key h in omega (arith, few)
 keys_length : (keys : List (List ℕ)) → list_all is_key keys ≡ true → length (flat_map spelled_key keys) ≤ 65 * length keys
 keys_length [] h = omega arith
 keys_length (key ∷ keys) h =
-    let each = both (is_key key) (list_all is_key keys) h in
+    let each = and_parts (is_key key) (list_all is_key keys) h in
     let first = key_length key each.0 in
     let rest = keys_length keys each.1 in
     let sum = length-append (spelled_key key) (flat_map spelled_key keys) in
@@ -161,7 +144,7 @@ keys_length (key ∷ keys) h =
 
 pair_length : (pair : List ℕ × List ℕ) → is_pair pair ≡ true → length (spelled_pair pair) ≤ 323
 pair_length pair h =
-    let sizes = both (is_key pair.0) (is_value pair.1) h in
+    let sizes = and_parts (is_key pair.0) (is_value pair.1) h in
     let key = key_length pair.0 sizes.0 in
     let value = value_size pair.1 sizes.1 in
     let sum = length-append (spelled_key pair.0) (big_bytes 2 (length pair.1) ++ pair.1) in
@@ -170,7 +153,7 @@ pair_length pair h =
 pairs_length : (s : Pairs) → list_all is_pair s ≡ true → length (flat_map spelled_pair s) ≤ 323 * length s
 pairs_length [] h = omega arith
 pairs_length (pair ∷ s) h =
-    let each = both (is_pair pair) (list_all is_pair s) h in
+    let each = and_parts (is_pair pair) (list_all is_pair s) h in
     let first = pair_length pair each.0 in
     let rest = pairs_length s each.1 in
     let sum = length-append (spelled_pair pair) (flat_map spelled_pair s) in
@@ -188,101 +171,7 @@ length_change c h =
     let sum = length-append (big_bytes 2 (length c.gone) ++ flat_map spelled_key c.gone) (big_bytes 2 (length c.set) ++ flat_map spelled_pair c.set) in
     omega (arith, few, keys, most, pairs, sum)
 
--- ---- keys in their order
-
-same_key : (x y : List ℕ) → order x y ≡ Equal → x ≡ y
-same_key = slice_cmp-IsAntisymmetric nat_cmp-IsAntisymmetric
-
-tied : (o : Ordering) → is_eq o ≡ true → o ≡ Equal
-tied Less h = absurd cc
-tied Equal h = refl
-tied Greater h = absurd cc
-
-eq_key : (x y : List ℕ) → eq_by_cmp order x y ≡ true → x ≡ y
-eq_key x y h = same_key x y (tied (order x y) h)
-
-eq_self : (x : List ℕ) → eq_by_cmp order x x ≡ true
-eq_self x = ap is_eq (tied_itself nat_list_cmp_total x)
-
-eq_turned : (x y : List ℕ) → eq_by_cmp order x y ≡ eq_by_cmp order y x
-eq_turned x y = (eq_by_cmp_equiv nat_list_cmp_total).symm x y
-
 -- ---- operations
-
-put_sound : (key value : List ℕ) (s : Pairs) → is_key key ≡ true → is_value value ≡ true → list_all is_pair s ≡ true → list_all is_pair (put order key value s) ≡ true
-put_sound key value [] k v h = joined (is_pair (key, value)) true (joined (is_key key) (is_value value) k v) refl
-put_sound key value (e ∷ es) k v h =
-    let each = both (is_pair e) (list_all is_pair es) h in
-    let old = both (is_key e.0) (is_value e.1) each.0 in
-    let new : is_pair (key, value) ≡ true = joined (is_key key) (is_value value) k v in
-    let go : (o : Ordering) → list_all is_pair (by_order o ((key, value) ∷ e ∷ es) ((e.0, value) ∷ es) (e ∷ put order key value es)) ≡ true =
-    elim [
-      | Less ↦ joined (is_pair (key, value)) (list_all is_pair (e ∷ es)) new h
-      | Equal ↦ joined (is_pair (e.0, value)) (list_all is_pair es) (joined (is_key e.0) (is_value value) old.0 v) each.1
-      | Greater ↦ joined (is_pair e) (list_all is_pair (put order key value es)) each.0 (put_sound key value es k v each.1)
-    ] in
-    go (order key e.0)
-
-pub put_ordered : (key value : List ℕ) (s : Pairs) → is_sorted order s ≡ true → is_sorted order (put order key value s) ≡ true
-put_ordered key value s h = holds (is_sorted order (put order key value s)) (is_sorted-put order nat_list_cmp_total key value s (so (is_sorted order s) h))
-
-put_few : (key value : List ℕ) (s : Pairs) → is_sorted order s ≡ true → length s ≤ 256 → (is_some (find order key s) ≡ false → length s < 256)
-    → length (put order key value s) ≤ 256
-put_few key value s ordered few room =
-    let size = length-put order nat_list_cmp_total key value s (so (is_sorted order s) ordered) in
-    let go : (b : Bool) → is_some (find order key s) ≡ b → cond b (length s) (length s + 1) ≤ 256 =
-    elim [ true ↦ λ e. few | false ↦ λ e. let below = room e in omega (arith, below) ] in
-    subst (λ (n : ℕ). n ≤ 256) (sym size) (go (is_some (find order key s)) refl)
-
-filter_sound : (test : List ℕ × List ℕ → Bool) (s : Pairs) → list_all is_pair s ≡ true → list_all is_pair (filter test s) ≡ true
-filter_sound test [] h = refl
-filter_sound test (e ∷ es) h =
-    let each = both (is_pair e) (list_all is_pair es) h in
-    let rest = filter_sound test es each.1 in
-    let go : (b : Bool) → list_all is_pair (cond b (e ∷ filter test es) (filter test es)) ≡ true =
-    elim [ true ↦ joined (is_pair e) (list_all is_pair (filter test es)) each.0 rest | false ↦ rest ] in
-    go (test e)
-
-filter_few : (test : List ℕ × List ℕ → Bool) (s : Pairs) → length (filter test s) ≤ length s
-filter_few test [] = omega arith
-filter_few test (e ∷ es) =
-    let rest = filter_few test es in
-    let go : (b : Bool) → length (cond b (e ∷ filter test es) (filter test es)) ≤ suc (length es) =
-    elim [ true ↦ omega (arith, rest) | false ↦ omega (arith, rest) ] in
-    go (test e)
-
-below_filter : (x : List ℕ) (test : List ℕ × List ℕ → Bool) (s : Pairs) → below_all order x s ≡ true → below_all order x (filter test s) ≡ true
-below_filter x test [] h = refl
-below_filter x test (e ∷ es) h =
-    let each = both (is_lt (order x e.0)) (below_all order x es) h in
-    let rest = below_filter x test es each.1 in
-    let go : (b : Bool) → below_all order x (cond b (e ∷ filter test es) (filter test es)) ≡ true =
-    elim [ true ↦ joined (is_lt (order x e.0)) (below_all order x (filter test es)) each.0 rest | false ↦ rest ] in
-    go (test e)
-
-filter_ordered : (test : List ℕ × List ℕ → Bool) (s : Pairs) → is_sorted order s ≡ true → is_sorted order (filter test s) ≡ true
-filter_ordered test [] h = refl
-filter_ordered test (e ∷ es) h =
-    let each = both (below_all order e.0 es) (is_sorted order es) h in
-    let rest = filter_ordered test es each.1 in
-    let go : (b : Bool) → is_sorted order (cond b (e ∷ filter test es) (filter test es)) ≡ true =
-    elim [ true ↦ joined (below_all order e.0 (filter test es)) (is_sorted order (filter test es)) (below_filter e.0 test es each.0) rest | false ↦ rest ] in
-    go (test e)
-
-pub filter_store : (test : List ℕ × List ℕ → Bool) (s : Pairs) → IsStore s → IsStore (filter test s)
-filter_store test s h = record {
-  ordered = filter_ordered test s h.ordered;
-  few = (let fewer = filter_few test s in let few = h.few in omega (arith, fewer, few));
-  sound = filter_sound test s h.sound;
-}
-
-pub put_store : (key value : List ℕ) (s : Pairs) → is_key key ≡ true → is_value value ≡ true → IsStore s
-    → (is_some (find order key s) ≡ false → length s < 256) → IsStore (put order key value s)
-put_store key value s k v h room = record {
-  ordered = put_ordered key value s h.ordered;
-  few = put_few key value s h.ordered h.few room;
-  sound = put_sound key value s k v h.sound;
-}
 
 -- each branch of a put
 by_put : (P : Pairs × Outcome → Type 0) (s : Pairs) (key value : List ℕ)
@@ -345,18 +234,6 @@ value_gives value few =
     let short : length value < 2 ^ 32 = omega (arith, few) in
     ((octets_at 0 value, [], sym (append-nil (octets_at 0 value)), (value, short, refl), refl), omega (arith, few))
 
--- a value that is found has a value's size
-pub found_sound : (key : List ℕ) (s : Pairs) (value : List ℕ) → list_all is_pair s ≡ true → find order key s ≡ Some value → is_value value ≡ true
-found_sound key [] value h is = absurd cc
-found_sound key (e ∷ es) value h is =
-    let each = both (is_pair e) (list_all is_pair es) h in
-    let go : (b : Bool) → cond b (Some e.1) (find order key es) ≡ Some value → is_value value ≡ true =
-    elim [
-      | true ↦ λ f. let same : e.1 ≡ value = cc in subst (λ (v : List ℕ). is_value v ≡ true) same (both (is_key e.0) (is_value e.1) each.0).1
-      | false ↦ λ f. found_sound key es value each.1 f
-    ] in
-    go (eq_by_cmp order key e.0) is
-
 found_gives : (o : Option (List ℕ)) → ((value : List ℕ) → o ≡ Some value → is_value value ≡ true) → IsGivenAs (Some (signature_of Get)) (found o)
 found_gives None each = no_key
 found_gives (Some value) each = value_gives value (value_size value (each value refl))
@@ -382,105 +259,6 @@ ran_gives (Some Remove) s args h fits =
 ran_gives (Some Size) s args h fits = size_gives (length s) h.few
 
 -- ---- updates
-
-among : List ℕ → List (List ℕ) → Bool
-among key keys = list_any (eq_by_cmp order key) keys
-
-or_else : Option (List ℕ) → Option (List ℕ) → Option (List ℕ)
-or_else None other = other
-or_else (Some value) other = Some value
-
-turned : {A : Type 0} (b : Bool) (x y : A) → cond (not b) x y ≡ cond b y x
-turned true x y = refl
-turned false x y = refl
-
-nested : (a b : Bool) (x : Option (List ℕ)) → cond a None (cond b None x) ≡ cond (a || b) None x
-nested true b x = refl
-nested false b x = refl
-
-find_without_key : (q key : List ℕ) (s : Pairs) → find order q (without_key key s) ≡ cond (eq_by_cmp order q key) None (find order q s)
-find_without_key q key s =
-    find-where_key order (λ x. not (eq_by_cmp order key x)) q (λ x t. ap (λ y. not (eq_by_cmp order key y)) (sym (same_key q x t))) s
-    ∙ turned (eq_by_cmp order key q) (find order q s) None ∙ ap (λ b. cond b None (find order q s)) (eq_turned key q)
-
-find_without : (q : List ℕ) (keys : List (List ℕ)) (s : Pairs) → find order q (without keys s) ≡ cond (among q keys) None (find order q s)
-unfolding among
-find_without q [] s = refl
-find_without q (key ∷ keys) s =
-    find_without_key q key (without keys s) ∙ ap (λ o. cond (eq_by_cmp order q key) None o) (find_without q keys s)
-    ∙ nested (eq_by_cmp order q key) (among q keys) (find order q s)
-
-or_put : (b : Bool) (value : List ℕ) (o other : Option (List ℕ)) → cond b (Some value) (or_else o other) ≡ or_else (cond b (Some value) o) other
-unfolding or_else
-or_put true value o other = refl
-or_put false value o other = refl
-
-find_with : (q : List ℕ) (more s : Pairs) → find order q (with_pairs more s) ≡ or_else (find order q more) (find order q s)
-unfolding or_else
-find_with q [] s = refl
-find_with q (e ∷ more) s =
-    find-put order nat_list_cmp_total q e.0 e.1 (with_pairs more s) ∙ ap (λ o. cond (eq_by_cmp order q e.0) (Some e.1) o) (find_with q more s)
-    ∙ or_put (eq_by_cmp order q e.0) e.1 (find order q more) (find order q s)
-
-without_ordered : (keys : List (List ℕ)) (s : Pairs) → is_sorted order s ≡ true → is_sorted order (without keys s) ≡ true
-without_ordered [] s h = h
-without_ordered (key ∷ keys) s h = filter_ordered (λ pair. not (eq_by_cmp order key pair.0)) (without keys s) (without_ordered keys s h)
-
-with_ordered : (more s : Pairs) → is_sorted order s ≡ true → is_sorted order (with_pairs more s) ≡ true
-with_ordered [] s h = h
-with_ordered (e ∷ more) s h = put_ordered e.0 e.1 (with_pairs more s) (with_ordered more s h)
-
-without_sound : (keys : List (List ℕ)) (s : Pairs) → list_all is_pair s ≡ true → list_all is_pair (without keys s) ≡ true
-without_sound [] s h = h
-without_sound (key ∷ keys) s h = filter_sound (λ pair. not (eq_by_cmp order key pair.0)) (without keys s) (without_sound keys s h)
-
-with_sound : (more s : Pairs) → list_all is_pair more ≡ true → list_all is_pair s ≡ true → list_all is_pair (with_pairs more s) ≡ true
-with_sound [] s k h = h
-with_sound (e ∷ more) s k h =
-    let each = both (is_pair e) (list_all is_pair more) k in
-    let sizes = both (is_key e.0) (is_value e.1) each.0 in
-    put_sound e.0 e.1 (with_pairs more s) sizes.0 sizes.1 (with_sound more s each.1 h)
-
--- what a test of pairs lets through, by key
-kept : (List ℕ × List ℕ → Bool) → List ℕ → Option (List ℕ) → Option (List ℕ)
-kept test q None = None
-kept test q (Some value) = if test (q, value) then Some value else None
-
-find_below : (q : List ℕ) (s : Pairs) → below_all order q s ≡ true → find order q s ≡ None
-find_below q [] h = refl
-find_below q (e ∷ es) h =
-    let each = both (is_lt (order q e.0)) (below_all order q es) h in
-    let less : (o : Ordering) → is_lt o ≡ true → cond (is_eq o) (Some e.1) (find order q es) ≡ None =
-    elim [ Less ↦ λ f. find_below q es each.1 | Equal ↦ λ (f : false ≡ true). absurd cc | Greater ↦ λ (f : false ≡ true). absurd cc ] in
-    less (order q e.0) each.0
-
-find_filter : (test : List ℕ × List ℕ → Bool) (q : List ℕ) (s : Pairs) → is_sorted order s ≡ true
-    → find order q (filter test s) ≡ kept test q (find order q s)
-unfolding kept
-find_filter test q [] h = refl
-find_filter test q (e ∷ es) h =
-    let each = both (below_all order e.0 es) (is_sorted order es) h in
-    let rest = find_filter test q es each.1 in
-    let at : (t b : Bool) → test e ≡ t → eq_by_cmp order q e.0 ≡ b
-    → find order q (cond t (e ∷ filter test es) (filter test es)) ≡ kept test q (cond b (Some e.1) (find order q es)) =
-    elim [
-      | true ↦ elim [
-        | true ↦ λ t b.
-            let same : q ≡ e.0 = eq_key q e.0 b in
-            ap (λ c. cond c (Some e.1) (find order q (filter test es))) b
-            ∙ sym (ap (λ (x : List ℕ). if test (x, e.1) then Some e.1 else None) same ∙ ap (λ c. if c then Some e.1 else None) t)
-        | false ↦ λ t b. ap (λ c. cond c (Some e.1) (find order q (filter test es))) b ∙ rest
-      ]
-      | false ↦ elim [
-        | true ↦ λ t b.
-            let same : q ≡ e.0 = eq_key q e.0 b in
-            let nowhere : find order q es ≡ None = ap (λ (x : List ℕ). find order x es) same ∙ find_below e.0 es each.0 in
-            rest ∙ ap (kept test q) nowhere
-            ∙ sym (ap (λ (x : List ℕ). if test (x, e.1) then Some e.1 else None) same ∙ ap (λ c. if c then Some e.1 else None) t)
-        | false ↦ λ t b. rest
-      ]
-    ] in
-    at (test e) (eq_by_cmp order q e.0) refl refl
 
 is_gone : Pairs → List ℕ × List ℕ → Bool
 is_gone later pair = not (is_some (find order pair.0 later))
@@ -561,7 +339,7 @@ all_gone P later (e ∷ es) each =
     let go : (t : Bool) → not (is_some (find order e.0 later)) ≡ t
     → list_all P (map (λ pair. pair.0) (cond t (e ∷ filter (is_gone later) es) (filter (is_gone later) es))) ≡ true =
     elim [
-      | true ↦ λ t. joined (P e.0) (list_all P (map (λ pair. pair.0) (filter (is_gone later) es)))
+      | true ↦ λ t. and_from (P e.0) (list_all P (map (λ pair. pair.0) (filter (is_gone later) es)))
           (each e.0 (ap (λ b. is_some (cond b (Some e.1) (find order e.0 es))) (eq_self e.0)) t) rest
       | false ↦ λ t. rest
     ] in
@@ -571,11 +349,11 @@ gone_keys : (later : Pairs) (es : Pairs) → list_all is_pair es ≡ true → li
 unfolding is_gone
 gone_keys later [] h = refl
 gone_keys later (e ∷ es) h =
-    let each = both (is_pair e) (list_all is_pair es) h in
+    let each = and_parts (is_pair e) (list_all is_pair es) h in
     let rest = gone_keys later es each.1 in
     let go : (t : Bool) → list_all is_key (map (λ pair. pair.0) (cond t (e ∷ filter (is_gone later) es) (filter (is_gone later) es))) ≡ true =
     elim [
-      | true ↦ joined (is_key e.0) (list_all is_key (map (λ pair. pair.0) (filter (is_gone later) es))) (both (is_key e.0) (is_value e.1) each.0).0 rest
+      | true ↦ and_from (is_key e.0) (list_all is_key (map (λ pair. pair.0) (filter (is_gone later) es))) (and_parts (is_key e.0) (is_value e.1) each.0).0 rest
       | false ↦ rest
     ] in
     go (not (is_some (find order e.0 later)))
@@ -587,13 +365,13 @@ length_keys (e ∷ es) = ap suc (length_keys es)
 rises_behind : (key : List ℕ) (s : Pairs) → below_all order key s ≡ true → is_sorted order s ≡ true → rises_from key (map (λ pair. pair.0) s) ≡ true
 rises_behind key [] below h = refl
 rises_behind key (e ∷ es) below h =
-    let each = both (below_all order e.0 es) (is_sorted order es) h in
-    joined (is_lt (order key e.0)) (rises_from e.0 (map (λ pair. pair.0) es)) (both (is_lt (order key e.0)) (below_all order key es) below).0
+    let each = and_parts (below_all order e.0 es) (is_sorted order es) h in
+    and_from (is_lt (order key e.0)) (rises_from e.0 (map (λ pair. pair.0) es)) (and_parts (is_lt (order key e.0)) (below_all order key es) below).0
     (rises_behind e.0 es each.0 each.1)
 
 keys_rise : (s : Pairs) → is_sorted order s ≡ true → rises (map (λ pair. pair.0) s) ≡ true
 keys_rise [] h = refl
-keys_rise (e ∷ es) h = let each = both (below_all order e.0 es) (is_sorted order es) h in rises_behind e.0 es each.0 each.1
+keys_rise (e ∷ es) h = let each = and_parts (below_all order e.0 es) (is_sorted order es) h in rises_behind e.0 es each.0 each.1
 
 -- a key that is nowhere later is in no pair that is set
 unset : (base later : Pairs) (key : List ℕ) → is_sorted order later ≡ true → not (is_some (find order key later)) ≡ true
@@ -635,6 +413,12 @@ changed_store base c h k few = record {
   few = few;
   sound = with_sound c.set (without c.gone base) k.set.sound (without_sound c.gone base h.sound);
 }
+
+-- the pairs after a change, by maps to which it is given key by key
+pub changed_is : (base : Pairs) (c : Change) → is_sorted order base ≡ true → is_sorted order c.set ≡ true → put_all c.set (out_all c.gone base) ≡ changed base c
+changed_is base c h k =
+    put_all_is c.set (out_all c.gone base) k (out_all_ordered c.gone base h)
+    ∙ ap (with_pairs c.set) (out_all_is c.gone base h)
 
 advanced_stays : (base later : Pairs) (c : Change) → IsStore base → IsChange c → advanced base (Some c) ≡ Some later → IsStore later
 advanced_stays base later c h k is =
@@ -690,116 +474,3 @@ owes = record {
   updates = λ base later h k leads.
       ap (advanced base) (change_found (since base later) (since_change base later (parts base h) (parts later k))) ∙ led base later (parts base h) (parts later k);
 }
-
--- ---- keys that are out of the way
-
-less_not_eq : (o : Ordering) → is_lt o ≡ true → is_eq o ≡ false
-less_not_eq Less h = refl
-less_not_eq Equal h = absurd cc
-less_not_eq Greater h = refl
-
--- what is above a key stays where that key is taken out
-pub below_kept : (key first : List ℕ) (s : Pairs) → eq_by_cmp order key first ≡ true → below_all order first s ≡ true → without_key key s ≡ s
-below_kept key first [] e h = refl
-below_kept key first (x ∷ xs) e h =
-    let each = both (is_lt (order first x.0)) (below_all order first xs) h in
-    let same : key ≡ first = eq_key key first e in
-    let apart : eq_by_cmp order key x.0 ≡ false = ap (λ (k : List ℕ). eq_by_cmp order k x.0) same ∙ less_not_eq (order first x.0) each.0 in
-    ap (λ b. cond (not b) (x ∷ without_key key xs) (without_key key xs)) apart ∙ ap (λ (s : Pairs). x ∷ s) (below_kept key first xs e each.1)
-
--- a pair whose key is above all others stands behind them
-above_all : List ℕ → Pairs → Bool
-above_all key s = list_all (λ e. is_lt (order e.0 key)) s
-
-put_last : (key value : List ℕ) (s : Pairs) → above_all key s ≡ true → put order key value s ≡ s ++ (key, value) ∷ []
-unfolding above_all
-put_last key value [] h = refl
-put_last key value (e ∷ es) h =
-    let each = both (is_lt (order e.0 key)) (list_all (λ e. is_lt (order e.0 key)) es) h in
-    let greater : (o : Ordering) → is_lt o ≡ true → ordering_reverse o ≡ Greater =
-    elim [ Less ↦ λ f. refl | Equal ↦ λ (f : false ≡ true). absurd cc | Greater ↦ λ (f : false ≡ true). absurd cc ] in
-    let at : order key e.0 ≡ Greater = nat_list_cmp_total.antisymm key e.0 ∙ greater (order e.0 key) each.0 in
-    ap (λ o. by_order o ((key, value) ∷ e ∷ es) ((e.0, value) ∷ es) (e ∷ put order key value es)) at
-    ∙ ap (λ (s : Pairs). e ∷ s) (put_last key value es each.1)
-
-below_in : (key : List ℕ) (front : Pairs) (e : List ℕ × List ℕ) (s : Pairs) → below_all order key (front ++ e ∷ s) ≡ true → is_lt (order key e.0) ≡ true
-below_in key [] e s h = (both (is_lt (order key e.0)) (below_all order key s) h).0
-below_in key (x ∷ front) e s h = below_in key front e s (both (is_lt (order key x.0)) (below_all order key (front ++ e ∷ s)) h).1
-
-above_front : (front : Pairs) (e : List ℕ × List ℕ) (s : Pairs) → is_sorted order (front ++ e ∷ s) ≡ true → above_all e.0 front ≡ true
-unfolding above_all
-above_front [] e s h = refl
-above_front (x ∷ front) e s h =
-    let each = both (below_all order x.0 (front ++ e ∷ s)) (is_sorted order (front ++ e ∷ s)) h in
-    joined (is_lt (order x.0 e.0)) (list_all (λ y. is_lt (order y.0 e.0)) front) (below_in x.0 front e s each.0) (above_front front e s each.1)
-
-put_all_behind : (s front : Pairs) → is_sorted order (front ++ s) ≡ true → put_all s front ≡ front ++ s
-put_all_behind [] front h = sym (append-nil front)
-put_all_behind (e ∷ s) front h =
-    let regrouped : (front ++ e ∷ []) ++ s ≡ front ++ e ∷ s = append_assoc front (e ∷ []) s in
-    ap (put_all s) (put_last e.0 e.1 front (above_front front e s h))
-    ∙ put_all_behind s (front ++ e ∷ []) (subst (λ (x : Pairs). is_sorted order x ≡ true) (sym regrouped) h)
-    ∙ regrouped
-
--- pairs in order that are put one by one are these pairs
-pub put_all_same : (s : Pairs) → is_sorted order s ≡ true → put_all s [] ≡ s
-put_all_same s h = put_all_behind s [] h
-
-pub put_all_ordered : (more s : Pairs) → is_sorted order s ≡ true → is_sorted order (put_all more s) ≡ true
-put_all_ordered [] s h = h
-put_all_ordered (e ∷ more) s h = put_all_ordered more (put order e.0 e.1 s) (put_ordered e.0 e.1 s h)
-
-find_put_all : (q : List ℕ) (more s : Pairs) → is_sorted order more ≡ true → find order q (put_all more s) ≡ or_else (find order q more) (find order q s)
-unfolding or_else
-find_put_all q [] s h = refl
-find_put_all q (e ∷ more) s h =
-    let each = both (below_all order e.0 more) (is_sorted order more) h in
-    let go : (b : Bool) → eq_by_cmp order q e.0 ≡ b
-    → or_else (find order q more) (cond b (Some e.1) (find order q s)) ≡ or_else (cond b (Some e.1) (find order q more)) (find order q s) =
-    elim [
-      | true ↦ λ f.
-          let nowhere : find order q more ≡ None = ap (λ (x : List ℕ). find order x more) (eq_key q e.0 f) ∙ find_below e.0 more each.0 in
-          ap (λ o. or_else o (Some e.1)) nowhere
-      | false ↦ λ f. refl
-    ] in
-    find_put_all q more (put order e.0 e.1 s) each.1
-    ∙ ap (or_else (find order q more)) (find-put order nat_list_cmp_total q e.0 e.1 s)
-    ∙ go (eq_by_cmp order q e.0) refl
-
--- in which order pairs are put says nothing
-pub put_all_is : (more s : Pairs) → is_sorted order more ≡ true → is_sorted order s ≡ true → put_all more s ≡ with_pairs more s
-put_all_is more s h k =
-    same_entries order nat_list_cmp_total same_key (put_all more s) (with_pairs more s)
-    (so (is_sorted order (put_all more s)) (put_all_ordered more s k)) (so (is_sorted order (with_pairs more s)) (with_ordered more s k))
-    (λ q. find_put_all q more s h ∙ sym (find_with q more s))
-
-pub out_all_ordered : (keys : List (List ℕ)) (s : Pairs) → is_sorted order s ≡ true → is_sorted order (out_all keys s) ≡ true
-out_all_ordered [] s h = h
-out_all_ordered (key ∷ keys) s h = out_all_ordered keys (without_key key s) (filter_ordered (λ pair. not (eq_by_cmp order key pair.0)) s h)
-
-find_out_all : (q : List ℕ) (keys : List (List ℕ)) (s : Pairs) → find order q (out_all keys s) ≡ cond (among q keys) None (find order q s)
-unfolding among
-find_out_all q [] s = refl
-find_out_all q (key ∷ keys) s =
-    let swapped : (a b : Bool) (x : Option (List ℕ)) → cond a None (cond b None x) ≡ cond (b || a) None x =
-    elim [ true ↦ elim [ true ↦ λ x. refl | false ↦ λ x. refl ] | false ↦ elim [ true ↦ λ x. refl | false ↦ λ x. refl ] ] in
-    find_out_all q keys (without_key key s) ∙ ap (λ o. cond (among q keys) None o) (find_without_key q key s)
-    ∙ swapped (among q keys) (eq_by_cmp order q key) (find order q s)
-
-pub out_all_is : (keys : List (List ℕ)) (s : Pairs) → is_sorted order s ≡ true → out_all keys s ≡ without keys s
-out_all_is keys s h =
-    same_entries order nat_list_cmp_total same_key (out_all keys s) (without keys s)
-    (so (is_sorted order (out_all keys s)) (out_all_ordered keys s h)) (so (is_sorted order (without keys s)) (without_ordered keys s h))
-    (λ q. find_out_all q keys s ∙ sym (find_without q keys s))
-
-pub out_ordered : (key : List ℕ) (s : Pairs) → is_sorted order s ≡ true → is_sorted order (without_key key s) ≡ true
-out_ordered key s h = filter_ordered (λ pair. not (eq_by_cmp order key pair.0)) s h
-
-pub out_store : (key : List ℕ) (s : Pairs) → IsStore s → IsStore (without_key key s)
-out_store key s h = filter_store (λ pair. not (eq_by_cmp order key pair.0)) s h
-
--- the pairs after a change, by maps to which it is given key by key
-pub changed_is : (base : Pairs) (c : Change) → is_sorted order base ≡ true → is_sorted order c.set ≡ true → put_all c.set (out_all c.gone base) ≡ changed base c
-changed_is base c h k =
-    put_all_is c.set (out_all c.gone base) k (out_all_ordered c.gone base h)
-    ∙ ap (with_pairs c.set) (out_all_is c.gone base h)

@@ -2,12 +2,9 @@
 -- updates.)
 use Rattle.std.proofs.Common.{◌≡◌, Bool, true, false, ◌&&◌, if◌then◌else◌, List, ℕ, Option, Some, None, refl, ap, subst, ◌∙◌}
 use Rattle.std.specs.Str.{bytes_eq}
+use Rattle.std.proofs.lemmas.Bool.{and_parts}
 use Rattle.std.proofs.lemmas.Slice.Eq.{bytes_eq-Decides}
 use Rattle.ft_base.specs.Coding.{said, said_by}
-
-both : (a b : Bool) → (a && b) ≡ true → (a ≡ true) × (b ≡ true)
-both true b h = (refl, h)
-both false b h = absurd cc
 
 -- what is said by any spelling: the value that is read back, and only one that is spelled so
 pub said_again_by : {X : Type 0} (valid : X → Bool) (spelled : X → List ℕ) (read : List ℕ → Option X) (x : X) → valid x ≡ true
@@ -25,7 +22,7 @@ tested {X} valid spelled bytes (Some x) y is =
     let go : (b : Bool) → (valid x && bytes_eq bytes (spelled x)) ≡ b → (if b then Some x else None) ≡ Some y → (valid y ≡ true) × (bytes ≡ spelled y) =
     elim [
       | true ↦ λ test is.
-          let tests = both (valid x) (bytes_eq bytes (spelled x)) test in
+          let tests = and_parts (valid x) (bytes_eq bytes (spelled x)) test in
           let one : x ≡ y = cc in
           subst (λ (z : X). (valid z ≡ true) × (bytes ≡ spelled z)) one (tests.0, (bytes_eq-Decides bytes (spelled x)).0 tests.1)
       | false ↦ λ test is. absurd cc

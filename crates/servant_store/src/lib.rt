@@ -1,6 +1,7 @@
 //! The store: a servant that keeps values by their keys.
 #![tactic(auto)]
 
+mod arguments;
 mod changes;
 mod maps;
 mod operations;

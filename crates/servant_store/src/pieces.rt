@@ -148,18 +148,3 @@ pub fn comes_before(key: &[u8], other: &[u8]) -> bool
         _ => false,
     }
 }
-
-/// The key that arguments say.
-pub fn key_of(args: &[u8]) -> &[u8]
-    ensures { result.now ≡ words.key_of args.now }
-{
-    front(behind(args, 4), number_of_4(args).saturating_sub(1))
-}
-
-/// The value that arguments say behind a key.
-pub fn value_of(args: &[u8]) -> &[u8]
-    ensures { result.now ≡ words.value_of args.now }
-{
-    let place = 4 + number_of_4(args);
-    behind(args, place + (4 - place % 4) % 4 + 4)
-}

@@ -6,10 +6,11 @@ ghost use Rattle.servant_store.specs.Laws.{owes};
 ghost use Rattle.servant_store.specs.Operations.{signature_of};
 ghost use Rattle.servant_store.specs.Store.{IsStore, advanced, getting, pairs_said, putting, ran, removing, since, spelled, spelled_change, state_of, store_machine};
 
+use crate::arguments::{key_in, pair_in};
 use crate::changes::{Change, STORE_LIMIT, map_of, spell, update_between};
 use crate::maps::{Map, copied, has, set, take_out, value_at};
 use crate::operations::{Operation, refusal, tell_flag, tell_nothing, tell_size, tell_value};
-use crate::pieces::{VALUE_LIMIT, is_key, key_of, value_of};
+use crate::pieces::{VALUE_LIMIT, is_key};
 use ft_base::{
     Bytes, Name, NoMemory, Outcome, Request, Servant, Signature, StateFault, Steps, UpdateFault,
 };
@@ -128,17 +129,27 @@ impl Store {
         operation: Operation,
         args: &Bytes,
     ) -> Result<Outcome, NoMemory>
+        requires { FitsAs (Some (signature_of operation)) args.now }
         ensures ran { IfOk result (λ outcome. (self.new, outcome) ≡ ran (Some operation) self.old args.now) }
         ensures left { OnErr result (self.new ≡ self.old) }
         ensures before { IsStore self.old }
         ensures after { IsStore self.new }
     {
-        let bytes = args.bytes();
+        let size = self.size();
         match operation {
-            Operation::Put => self.put(alloc, key_of(bytes), value_of(bytes)),
-            Operation::Get => self.get(alloc, key_of(bytes)),
-            Operation::Remove => self.remove(alloc, key_of(bytes)),
-            Operation::Size => tell_size(alloc, self.size()),
+            Operation::Put => {
+                let (key, value) = pair_in(alloc, args)?;
+                self.put(alloc, key.bytes(), value.bytes())
+            }
+            Operation::Get => {
+                let key = key_in(alloc, args)?;
+                self.get(alloc, key.bytes())
+            }
+            Operation::Remove => {
+                let key = key_in(alloc, args)?;
+                self.remove(alloc, key.bytes())
+            }
+            Operation::Size => tell_size(alloc, size),
         }
     }
 

@@ -70,6 +70,14 @@ fn pushing(alloc: Global, item: &[u8]) -> Result<Bytes, NoMemory> {
     Ok(writer.finish())
 }
 
+fn body_of(alloc: Global, op: &str, item: &str) -> Result<Bytes, NoMemory> {
+    if op == "push" {
+        pushing(alloc, item.as_bytes())
+    } else {
+        Ok(nothing(alloc))
+    }
+}
+
 pub fn is_told(rt: &impl Abort, outcome: &Outcome, exception: &str, value: &[u8], row: &str) {
     match outcome {
         Outcome::Value(bytes) => {
@@ -112,11 +120,7 @@ fn each_call<L: Ledger>(
 ) -> Result<(), NoMemory> {
     let mut queue = Shipped::open(alloc, Kind::Queue)?;
     for (op, item, exception, value) in &CALLS {
-        let body = if *op == "push" {
-            pushing(alloc, item.as_bytes())?
-        } else {
-            nothing(alloc)
-        };
+        let body = body_of(alloc, op, item)?;
         let outcome = asked(alloc, &mut queue, steps, op, body)?;
         is_told(rt, &outcome, exception, value, op);
     }
@@ -141,15 +145,16 @@ fn queue_state(alloc: Global, popped: u64, count: u16) -> Result<Bytes, NoMemory
 
 const SPENT: u64 = 0x8000_0000_0000_0000;
 
-// The number popped, the number of items, whether this is a state, and the exceptions of a push and
-// of a pop then.
-const BOUNDARIES: [(u64, u16, bool, &str, &str); 6] = [
-    (0, 4095, true, "", ""),
-    (0, 4096, true, "QueueFull", ""),
-    (0, 4097, false, "", ""),
-    (SPENT - 1, 1, true, "", ""),
-    (SPENT, 1, true, "", "QueueSpent"),
-    (SPENT + 1, 1, false, "", ""),
+// The number popped and the number of items of a queue, what it is asked, and the exception. A bad item
+// comes before a full queue, and an empty queue before a spent one.
+const BOUNDARIES: [(u64, u16, &str, &str, &str); 7] = [
+    (0, 4095, "push", "ABCDEFGHIJKLMNOP", ""),
+    (0, 4096, "push", "ABCDEFGHIJKLMNOP", "QueueFull"),
+    (0, 4096, "push", "ABCDEFGHIJKLMNO", "BadItem"),
+    (SPENT, 4095, "push", "ABCDEFGHIJKLMNOP", ""),
+    (SPENT - 1, 1, "pop", "", ""),
+    (SPENT, 1, "pop", "", "QueueSpent"),
+    (SPENT, 0, "pop", "", "QueueEmpty"),
 ];
 
 fn each_boundary<L: Ledger>(
@@ -157,22 +162,44 @@ fn each_boundary<L: Ledger>(
     alloc: Global,
     steps: &mut Steps<L>,
 ) -> Result<(), NoMemory> {
-    for (popped, count, valid, push, pop) in &BOUNDARIES {
+    for (popped, count, op, item, exception) in &BOUNDARIES {
         let state = queue_state(alloc, *popped, *count)?;
         let mut queue = Shipped::open(alloc, Kind::Queue)?;
-        let taken = queue.set_state(alloc, &state);
-        if !*valid {
-            assert!(rt; taken == Err(StateFault::InvalidState), "{popped} {count}");
-            continue;
-        }
-        assert!(rt; taken == Ok(()), "{popped} {count}");
-        let item = pushing(alloc, b"ABCDEFGHIJKLMNOP")?;
-        let outcome = asked(alloc, &mut queue, steps, "push", item)?;
-        is_refused(rt, &outcome, push);
-        let outcome = asked(alloc, &mut queue, steps, "pop", nothing(alloc))?;
-        is_refused(rt, &outcome, pop);
+        assert!(rt;
+            queue.set_state(alloc, &state) == Ok(()),
+            "{popped} {count}"
+        );
+        let body = body_of(alloc, op, item)?;
+        let outcome = asked(alloc, &mut queue, steps, op, body)?;
+        is_refused(rt, &outcome, exception);
     }
     Ok(())
+}
+
+fn is_no_state(rt: &impl Abort, alloc: Global, state: &Bytes) -> Result<(), NoMemory> {
+    let mut queue = Shipped::open(alloc, Kind::Queue)?;
+    assert!(rt; queue.set_state(alloc, state) == Err(StateFault::InvalidState));
+    is_in_state(rt, alloc, &queue, &[0; 10])
+}
+
+// Bytes that are no state: too few, an item too few or too short, and one too many.
+const NO_STATES: [&[u8]; 5] = [
+    b"",
+    b"\0\0\0\0\0\0\0\0\0",
+    b"\0\0\0\0\0\0\0\0\0\x01",
+    b"\0\0\0\0\0\0\0\0\0\x010123456789abcde",
+    b"\0\0\0\0\0\0\0\0\0\00123456789abcdef",
+];
+
+fn each_state(rt: &impl Abort, alloc: Global) -> Result<(), NoMemory> {
+    for state in &NO_STATES {
+        let state = Bytes::of(alloc, state)?;
+        is_no_state(rt, alloc, &state)?;
+    }
+    let long = queue_state(alloc, 0, 4097)?;
+    is_no_state(rt, alloc, &long)?;
+    let spent = queue_state(alloc, SPENT + 1, 1)?;
+    is_no_state(rt, alloc, &spent)
 }
 
 pub fn is_refused(rt: &impl Abort, outcome: &Outcome, exception: &str) {
@@ -183,7 +210,7 @@ pub fn is_refused(rt: &impl Abort, outcome: &Outcome, exception: &str) {
 }
 
 // Updates of a queue that has popped 2 items and has 2: whether they are taken, and the state then.
-const UPDATES: [(&[u8], bool, &[u8]); 7] = [
+const UPDATES: [(&[u8], bool, &[u8]); 11] = [
     (
         b"\0\0\0\0\0\0\0\x02\0\0",
         true,
@@ -207,6 +234,10 @@ const UPDATES: [(&[u8], bool, &[u8]); 7] = [
     (b"\0\0\0\0\0\0\0\x01\0\0", false, b""),
     (b"\0\0\0\0\0\0\0\x03\0\x01ABCDEFGHIJKLMNO", false, b""),
     (b"\x80\0\0\0\0\0\0\x01\0\0", false, b""),
+    (b"\x80\0\0\0\0\0\0\0\0\0", true, b"\x80\0\0\0\0\0\0\0\0\0"),
+    (b"", false, b""),
+    (b"\0\0\0\0\0\0\0\x02\0\x01", false, b""),
+    (b"\0\0\0\0\0\0\0\x02\0\0\0", false, b""),
 ];
 
 fn each_update(rt: &impl Abort, alloc: Global) -> Result<(), NoMemory> {
@@ -227,7 +258,7 @@ fn each_update(rt: &impl Abort, alloc: Global) -> Result<(), NoMemory> {
     Ok(())
 }
 
-// A full queue takes no update that pushes, and sends what changed alone.
+// A full queue takes no update that pushes, and sends what changed alone: 26 bytes of 65,530.
 fn each_size<L: Ledger>(
     rt: &impl Abort,
     alloc: Global,
@@ -244,15 +275,18 @@ fn each_size<L: Ledger>(
     let item = pushing(alloc, b"ABCDEFGHIJKLMNOP")?;
     let _ = asked(alloc, &mut queue, steps, "push", item)?;
     let update = update_of(alloc, &queue, &base)?;
+    assert_eq!(rt; update.bytes().len(), 26);
     assert!(rt; update.bytes() == b"\0\0\0\0\0\0\0\x02\0\x01ABCDEFGHIJKLMNOP".as_slice());
     let state = queue.get_state(alloc)?;
     assert_eq!(rt; state.bytes().len(), 65_530);
     Ok(())
 }
 
-fn update_of(alloc: Global, queue: &Shipped, base: &Shipped) -> Result<Bytes, NoMemory> {
-    match (queue, base) {
-        (Shipped::Queue(queue), Shipped::Queue(base)) => queue.get_update(alloc, base),
+pub fn update_of(alloc: Global, servant: &Shipped, base: &Shipped) -> Result<Bytes, NoMemory> {
+    match (servant, base) {
+        (Shipped::Account(_), Shipped::Account(_)) => servant.get_update(alloc, base),
+        (Shipped::Store(_), Shipped::Store(_)) => servant.get_update(alloc, base),
+        (Shipped::Queue(_), Shipped::Queue(_)) => servant.get_update(alloc, base),
         _ => Err(NoMemory),
     }
 }
@@ -274,7 +308,8 @@ fn queues(rt: HostRuntime) -> Result<(), NoMemory> {
 }
 
 #[test]
-fn updates(rt: HostRuntime) -> Result<(), NoMemory> {
+fn states_and_updates(rt: HostRuntime) -> Result<(), NoMemory> {
+    each_state(&rt, rt.alloc())?;
     each_update(&rt, rt.alloc())
 }
 

@@ -1,6 +1,6 @@
 use Rattle.std.proofs.Common.{◌≡◌, true, ap, arith, subst, sym, ◌∙◌}
 use Rattle.std.specs.FinMap.{is_sorted}
-use Rattle.servant_store.specs.Laws.{put_all_same}
+use Rattle.servant_store.specs.PairLaws.{put_all_same}
 use Rattle.servant_store.specs.Store.{Pairs, changed, order}
 use Rattle.servant_store.specs.Views.{keys_of, out_all, pairs_of, put_all}
 use Rattle.servant_store.proofs.MapLaws.{length_pairs}

@@ -1,6 +1,7 @@
 use Rattle.std.proofs.Common.{◌≡◌, ℕ, List, true, length, ap, arith, subst, sym, ◌∙◌}
 use Rattle.std.specs.List.{list_all}
-use Rattle.servant_store.specs.Laws.{put_all_same, since_change}
+use Rattle.servant_store.specs.Laws.{since_change}
+use Rattle.servant_store.specs.PairLaws.{put_all_same}
 use Rattle.servant_store.specs.Store.{Pairs, is_key, is_pair, since, spelled_change}
 use Rattle.servant_store.specs.Views.{keys_of, pairs_of}
 use Rattle.servant_store.proofs.MapLaws.{length_keys, length_pairs}

@@ -1,6 +1,6 @@
 use Rattle.std.proofs.Common.{◌≡◌, true, ap, subst, sym, ◌∙◌}
 use Rattle.std.specs.FinMap.{is_sorted}
-use Rattle.servant_store.specs.Laws.{out_ordered}
+use Rattle.servant_store.specs.PairLaws.{out_ordered}
 use Rattle.servant_store.specs.Store.{Pairs, order}
 use Rattle.servant_store.specs.Views.{pairs_of}
 use Rattle.servant_store.proofs.MapLaws.{removed_view}

@@ -1,5 +1,5 @@
 use Rattle.std.proofs.Common.{subst, sym, ◌∙◌}
-use Rattle.servant_store.specs.Laws.{put_all_same}
+use Rattle.servant_store.specs.PairLaws.{put_all_same}
 use Rattle.servant_store.specs.Store.{IsStore}
 use Rattle.servant_store.specs.Views.{pairs_of}
 use Rattle.servant_store.proofs.stores.Store.equal.Goals as goal

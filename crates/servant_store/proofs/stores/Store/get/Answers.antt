@@ -1,5 +1,6 @@
 use Rattle.std.proofs.Common.{length, ap, arith, sym}
-use Rattle.servant_store.specs.Laws.{found_sound, value_size}
+use Rattle.servant_store.specs.Laws.{value_size}
+use Rattle.servant_store.specs.PairLaws.{found_sound}
 use Rattle.servant_store.specs.Views.{pairs_of}
 use Rattle.servant_store.proofs.stores.Store.get.Goals as goal
 

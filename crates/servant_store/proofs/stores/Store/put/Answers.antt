@@ -2,7 +2,7 @@ use Rattle.std.proofs.Common.{◌≡◌, ◌<◌, false, length, arith, subst, s
 use Rattle.std.specs.Prelude.{is_some}
 use Rattle.std.specs.FinMap.{find}
 use Rattle.std.proofs.lemmas.Bool.{le-leb}
-use Rattle.servant_store.specs.Laws.{put_store}
+use Rattle.servant_store.specs.PairLaws.{put_store}
 use Rattle.servant_store.specs.Store.{IsStore, order}
 use Rattle.servant_store.specs.Views.{pairs_of}
 use Rattle.servant_store.proofs.MapLaws.{length_pairs}

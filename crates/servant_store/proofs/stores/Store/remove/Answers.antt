@@ -1,5 +1,5 @@
 use Rattle.std.proofs.Common.{subst, sym}
-use Rattle.servant_store.specs.Laws.{out_store}
+use Rattle.servant_store.specs.PairLaws.{out_store}
 use Rattle.servant_store.specs.Store.{IsStore}
 use Rattle.servant_store.specs.Views.{pairs_of}
 use Rattle.servant_store.proofs.stores.Store.remove.Goals as goal
