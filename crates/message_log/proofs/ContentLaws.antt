@@ -2,7 +2,7 @@
 use Rattle.std.proofs.Common.{◌≡◌, Bool, true, false, true≢false, ◌<◌, cond, subst, ◌++◌, eqb, ℕ, zero, suc, ◌+◌, ◌≤◌, List, [], ◌∷◌, length, Option, Some, None, Result, Ok, Err, refl, sym, ap, ◌∙◌, add-one, arith}
 use Rattle.std.specs.Prelude.{drop, slice_get, is_some}
 use Rattle.message_log.specs.Opening.{Content, content_from, after_piece, and_then, with_view_or}
-use Rattle.message_log.specs.Records.{record_in}
+use Rattle.log_records.specs.Records.{record_in}
 use Rattle.std.specs.Prelude.{◌&&◌, nat_le, nat_lt}
 use Rattle.std.specs.List.{AllByRecursion}
 use Rattle.std.proofs.lemmas.Bool.{ltb-true, leb-true}
@@ -11,9 +11,13 @@ use Rattle.ft_base.specs.declared.views.View.{View}
 use Rattle.reply_table.specs.Entries.{unanswered, joined}
 use Rattle.reply_table.specs.declared.entries.Retained.{Retained}
 use Rattle.message_log.specs.Opening.{replied, with_retained}
-use Rattle.message_log.specs.Records.{are_rising}
+use Rattle.log_records.specs.Records.{are_rising}
 use Rattle.message_log.proofs.PictureLaws.{below, below_joined, below_answered}
-use Rattle.message_log.proofs.WritingLaws.{drop_at}
+
+drop_at : (pieces : List (List ℕ)) (i : ℕ) (piece : List ℕ) → slice_get pieces i ≡ Some piece → drop i pieces ≡ piece ∷ drop (suc i) pieces
+drop_at [] i piece h = absurd cc
+drop_at (p ∷ pieces) zero piece h = ap (λ q. q ∷ pieces) (let e : p ≡ piece = cc in e)
+drop_at (p ∷ pieces) (suc i) piece h = drop_at pieces i piece h
 
 pub content_goes : (pieces : List (List ℕ)) (i : ℕ) (piece : List ℕ) (c d : Content) → slice_get pieces i ≡ Some piece → after_piece c (record_in piece) ≡ Some d
     → content_from i c (drop i pieces) ≡ content_from (i + 1) d (drop (i + 1) pieces)

@@ -1,4 +1,3 @@
-pub mod WritingLaws
 pub mod PictureLaws
 pub mod Places
 pub mod StandingLaws

@@ -1,7 +1,8 @@
 -- What is true of every log stays true.
-use Rattle.std.proofs.Common.{◌≡◌, ℕ, ◌+◌, ◌<◌, ◌≤◌, Bool, true, false, cond, not, leb, eqb, max, List, [], ◌∷◌, ◌++◌, length, Option, Some, None, refl, sym, ap, subst, ◌∙◌, append_assoc, arith}
-use Rattle.std.specs.Prelude.{drop, nat_le, nat_lt}
-use Rattle.std.specs.List.{AllByRecursion, filter}
+use Rattle.std.proofs.Common.{◌≡◌, ◌⊎◌, inl, inr, ⊎_elim, ℕ, zero, suc, ◌+◌, ◌<◌, ◌≤◌, Bool, true, false, cond, not, leb, eqb, max, List, [], ◌∷◌, ◌++◌, length, Option, Some, None, refl, sym, ap, subst, ◌∙◌, append_assoc, length-append, arith}
+use Rattle.std.specs.Prelude.{drop, slice_get, nat_le, nat_lt}
+use Rattle.std.specs.List.{AllByRecursion, filter, find}
+use Rattle.std.proofs.lemmas.Bool.{eq-eqb, ne_eqb}
 use Rattle.std.proofs.lemmas.Bool.Decides.{nat_tests}
 use Rattle.ft_base.specs.declared.limits.TheConstants.{VIEW_LIMIT, JOURNAL_LIMIT}
 use Rattle.ft_base.specs.declared.requests.Key.{Key}
@@ -12,7 +13,7 @@ use Rattle.reply_table.specs.Entries.{found, joined, is_call, unexpired, is_unex
 use Rattle.reply_table.specs.declared.entries.Found.{Found}
 use Rattle.reply_table.specs.declared.entries.Found.TheVariants as founds
 use Rattle.reply_table.specs.declared.entries.Retained.{Retained}
-use Rattle.message_log.specs.Picture.{Picture, Reserved, length_of, IsSound}
+use Rattle.message_log.specs.Picture.{Picture, Reserved, length_of, views_of, view_at, AreNumbered, IsSound}
 use Rattle.message_log.specs.Calls.{reserved_of, IsReady}
 use Rattle.message_log.specs.Opening.{IsOpening}
 use Rattle.message_log.specs.declared.reservations.Reservation.{Reservation}
@@ -100,37 +101,47 @@ below_answered n position outcome (e ∷ table) h =
 
 -- ---- the calls
 
-pub sound_appended : (newest : View) (earlier mark entries : ℕ) (table : List Retained) (e : Retained) (key : Option Key)
+pub sound_appended : (newest : View) (earlier : List View) (mark entries : ℕ) (table : List Retained) (e : Retained) (key : Option Key)
     → IsSound newest earlier mark entries table → mark + entries < JOURNAL_LIMIT → e.position ≡ mark + entries
     → IsSound newest earlier mark (entries + 1) (joined table e key)
 sound_appended newest earlier mark entries table e key s room is = record {
+  numbered = s.numbered;
   first = s.first;
   last = s.last;
   fits = omega (arith, room);
   positions = below_joined (mark + (entries + 1)) table e key (below (mark + entries) (mark + (entries + 1)) table (omega arith) s.positions) (omega (arith, is));
 }
 
-pub sound_viewed : (newest next : View) (earlier mark entries : ℕ) (table : List Retained) → IsSound newest earlier mark entries table
-    → next.version.0 ≡ newest.version.0 + 1 → newest.version.0 < VIEW_LIMIT → IsSound next (earlier + 1) mark entries table
+numbered_viewed : (earlier : List View) (newest : View) (next : ℕ) → AreNumbered earlier newest.version.0 → next ≡ newest.version.0 + 1
+    → AreNumbered (earlier ++ newest ∷ []) next
+numbered_viewed [] newest next h is = (sym is, tt)
+numbered_viewed (v ∷ earlier) newest next h is =
+    (omega (arith, h.0, is, length-append earlier (newest ∷ [])), numbered_viewed earlier newest next h.1 is)
+
+pub sound_viewed : (newest next : View) (earlier : List View) (mark entries : ℕ) (table : List Retained) → IsSound newest earlier mark entries table
+    → next.version.0 ≡ newest.version.0 + 1 → newest.version.0 < VIEW_LIMIT → IsSound next (earlier ++ newest ∷ []) mark entries table
 sound_viewed newest next earlier mark entries table s is room = record {
-  first = omega (arith, s.first, is);
+  numbered = numbered_viewed earlier newest next.version.0 s.numbered is;
+  first = omega (arith, s.first, is, length-append earlier (newest ∷ []));
   last = omega (arith, room, is);
   fits = s.fits;
   positions = s.positions;
 }
 
-pub sound_checkpointed : (newest : View) (earlier mark entries time end none : ℕ) (table : List Retained) → IsSound newest earlier mark entries table
+pub sound_checkpointed : (newest : View) (earlier : List View) (mark entries time end none : ℕ) (table : List Retained) → IsSound newest earlier mark entries table
     → end ≡ mark + entries → none ≡ 0 → IsSound newest earlier end none (unexpired time table)
-sound_checkpointed newest earlier mark entries time end none table s is zero = record {
+sound_checkpointed newest earlier mark entries time end none table s is empty = record {
+  numbered = s.numbered;
   first = s.first;
   last = s.last;
-  fits = omega (arith, s.fits, is, zero);
-  positions = below_filter (end + none) (λ e. is_unexpired time e.request.key) table (below (mark + entries) (end + none) table (omega (arith, is, zero)) s.positions);
+  fits = omega (arith, s.fits, is, empty);
+  positions = below_filter (end + none) (λ e. is_unexpired time e.request.key) table (below (mark + entries) (end + none) table (omega (arith, is, empty)) s.positions);
 }
 
-pub sound_answered : (newest : View) (earlier mark entries position : ℕ) (outcome : Outcome) (table : List Retained) → IsSound newest earlier mark entries table
+pub sound_answered : (newest : View) (earlier : List View) (mark entries position : ℕ) (outcome : Outcome) (table : List Retained) → IsSound newest earlier mark entries table
     → IsSound newest earlier mark entries (with_reply table position outcome)
 sound_answered newest earlier mark entries position outcome table s = record {
+  numbered = s.numbered;
   first = s.first;
   last = s.last;
   fits = s.fits;
@@ -170,3 +181,29 @@ opening_entered newest mark entries table e key s is room = record {
   fits = omega (arith, room, is);
   positions = below_joined (mark + (entries + 1)) table e key (below (mark + entries) (mark + (entries + 1)) table (omega arith) s.positions) (omega (arith, is));
 }
+
+-- ---- the view of a version
+
+module _ (newest : View) (n : ℕ) where
+  abbrev has : View → Bool
+  has v = eqb v.version.0 n
+
+  passed_over : (v : View) (views : List View) → (v.version.0 ≡ n → ⊥) → find has ((v ∷ views) ++ newest ∷ []) ≡ find has (views ++ newest ∷ [])
+  passed_over v views other = ap (λ b. cond b (Some v) (find has (views ++ newest ∷ []))) (ne_eqb v.version.0 n other)
+
+  pub at_newest : (views : List View) → AreNumbered views newest.version.0 → n ≡ newest.version.0 → find has (views ++ newest ∷ []) ≡ Some newest
+  at_newest [] h is = ap (λ b. cond b (Some newest) None) (eq-eqb newest.version.0 n (sym is))
+  at_newest (v ∷ views) h is = passed_over v views (λ e. omega (arith, h.0, is, e)) ∙ at_newest views h.1 is
+
+  pub at_none : (views : List View) → AreNumbered views newest.version.0 → (newest.version.0 < n) ⊎ (n + length views < newest.version.0)
+      → find has (views ++ newest ∷ []) ≡ None
+  at_none [] h out = ap (λ b. cond b (Some newest) None) (ne_eqb newest.version.0 n (λ e. ⊎_elim (λ later. omega (arith, later, e)) (λ before. omega (arith, before, e)) out))
+  at_none (v ∷ views) h (inl later) = passed_over v views (λ e. omega (arith, h.0, later, e)) ∙ at_none views h.1 (inl later)
+  at_none (v ∷ views) h (inr before) = passed_over v views (λ e. omega (arith, h.0, before, e)) ∙ at_none views h.1 (inr (omega (arith, before)))
+
+  pub at_place : (views : List View) (i : ℕ) → AreNumbered views newest.version.0 → n < newest.version.0 → n + length views ≡ newest.version.0 + i
+      → find has (views ++ newest ∷ []) ≡ slice_get views i
+  at_place [] i h before is = absurd (omega (arith, before, is))
+  at_place (v ∷ views) zero h before is = ap (λ b. cond b (Some v) (find has (views ++ newest ∷ []))) (eq-eqb v.version.0 n (omega (arith, h.0, is)))
+  at_place (v ∷ views) (suc i) h before is =
+      passed_over v views (λ e. omega (arith, h.0, is, e)) ∙ at_place views i h.1 before (omega (arith, is))

@@ -7,40 +7,23 @@ use Rattle.ft_base.specs.declared.numbers.Version.{Version}
 use Rattle.ft_base.specs.declared.requests.Outcome.{Outcome}
 use Rattle.ft_base.specs.declared.requests.Request.{Request}
 use Rattle.ft_base.specs.declared.views.View.{View}
-use Rattle.cdr_codec.specs.declared.orders.Order.TheVariants.{Big}
-use Rattle.cdr_codec.specs.Calls.{Writer, appended}
-use Rattle.cdr_codec.specs.Encapsulations.{encapsulated}
-use Rattle.cdr_codec.specs.Formats.{number}
 use Rattle.ft_outside.specs.Outside.{next_count}
 use Rattle.ft_outside.specs.Keeping.{plan_after, IsForetold}
 use Rattle.reply_table.specs.Entries.{unanswered, joined, unexpired, with_reply}
 use Rattle.reply_table.specs.declared.entries.Retained.{Retained}
+use Rattle.log_records.specs.Records.{entry_record, view_record, checkpoint_record}
+use Rattle.log_records.specs.declared.records.Accepted.{Accepted}
+use Rattle.log_records.specs.declared.records.Checkpoint.{Checkpoint}
 use Rattle.message_log.specs.Picture.{Picture, Reserved, length_of}
-use Rattle.message_log.specs.Records.{formed, entry, view, checkpoint}
 use Rattle.message_log.specs.declared.answers.Appended.{Appended}
 use Rattle.message_log.specs.declared.answers.Appended.TheVariants.{At, Failed}
 use Rattle.message_log.specs.declared.answers.LogFault.{LogFault}
 use Rattle.message_log.specs.declared.answers.LogFault.TheVariants as log_faults
-use Rattle.message_log.specs.declared.records.Accepted.{Accepted}
-use Rattle.message_log.specs.declared.records.Checkpoint.{Checkpoint}
 use Rattle.message_log.specs.declared.reservations.Reservation.{Reservation}
 use Rattle.message_log.specs.declared.tidying.Tidied.{Tidied}
 use Rattle.message_log.specs.declared.tidying.Tidied.TheVariants.{Cut, Uncut, Unwritten}
 
--- ---- records
-
--- the writer behind the octets of the order and of the form
-abbrev pub begun : ℕ → Writer
-begun form = appended (number 1).written form (record { order = Big; place = 0; text = 0 ∷ [] })
-
-unfoldable pub entry_record : Accepted → List ℕ
-entry_record accepted = encapsulated Big (formed 1 entry) accepted
-
-unfoldable pub view_record : View → List ℕ
-view_record v = encapsulated Big (formed 2 view) v
-
-unfoldable pub checkpoint_record : Checkpoint → List ℕ
-checkpoint_record c = encapsulated Big (formed 3 checkpoint) c
+-- ---- what was reserved
 
 -- what was reserved, with its record
 abbrev pub reserved_of : Option Reservation → Option Reserved

@@ -1,4 +1,3 @@
-pub mod Records
 pub mod Picture
 pub mod Admission
 pub mod Calls

@@ -9,14 +9,14 @@ use Rattle.ft_base.specs.declared.requests.Outcome.{Outcome}
 use Rattle.ft_base.specs.declared.views.View.{View}
 use Rattle.reply_table.specs.Entries.{unanswered, joined, with_reply}
 use Rattle.reply_table.specs.declared.entries.Retained.{Retained}
+use Rattle.log_records.specs.Records.{primary_sign, record_in}
+use Rattle.log_records.specs.declared.records.Accepted.{Accepted}
+use Rattle.log_records.specs.declared.records.Checkpoint.{Checkpoint}
+use Rattle.log_records.specs.declared.records.Record.{Record}
+use Rattle.log_records.specs.declared.records.Record.TheVariants as records
 use Rattle.message_log.specs.Picture.{Picture}
-use Rattle.message_log.specs.Records.{primary_sign, are_rising, record_in}
 use Rattle.message_log.specs.declared.answers.ReopenFault.{ReopenFault}
 use Rattle.message_log.specs.declared.answers.ReopenFault.TheVariants.{Bad, NoMemory}
-use Rattle.message_log.specs.declared.records.Accepted.{Accepted}
-use Rattle.message_log.specs.declared.records.Checkpoint.{Checkpoint}
-use Rattle.message_log.specs.declared.records.Record.{Record}
-use Rattle.message_log.specs.declared.records.Record.TheVariants as records
 
 pub record Content : Type 0 where
   pub newest : Option View
@@ -122,12 +122,6 @@ pub record IsOpening (newest : Option View) (mark entries : ℕ) (table : List R
   pub version : HasVersion newest
   pub fits : mark + entries ≤ JOURNAL_LIMIT
   pub positions : AllByRecursion (λ e. e.position < mark + entries) table
-
--- what a record's reading gives is in its ranges
-abbrev pub IsInRange : Record → Type 0
-IsInRange (records.Entry e) = e.position < JOURNAL_LIMIT
-IsInRange (records.View v) = (0 < v.version.0) × (v.version.0 ≤ VIEW_LIMIT)
-IsInRange (records.Checkpoint k) = (k.mark ≤ JOURNAL_LIMIT) × (are_rising 0 k.mark k.retained ≡ true)
 
 -- a call told a record's content: that it may stand there, or not; of want of memory nothing is said
 abbrev pub IsTold : {E : Type 0} → Option Content → Result Bool E → Content → Content → Type 0

@@ -1,6 +1,6 @@
 -- What a contract sees of a log.
-use Rattle.std.specs.Prelude.{◌≡◌, ℕ, ◌+◌, ◌-◌, ◌<◌, ◌≤◌, Bool, true, nat_lt, if◌then◌else◌, List, [], ◌∷◌, ◌++◌, length, slice_get, Option, Some, None, option_map}
-use Rattle.std.specs.List.{AllByRecursion}
+use Rattle.std.specs.Prelude.{◌≡◌, ℕ, ◌+◌, ◌-◌, ◌<◌, ◌≤◌, ◌==◌, Bool, true, nat_lt, if◌then◌else◌, List, [], ◌∷◌, ◌++◌, length, slice_get, Option, Some, None, option_map}
+use Rattle.std.specs.List.{AllByRecursion, find}
 use Rattle.ft_base.specs.Journal.{Entry}
 use Rattle.ft_base.specs.Members.{is_member}
 use Rattle.ft_base.specs.declared.limits.TheConstants.{HOST_LIMIT, VIEW_LIMIT, JOURNAL_LIMIT}
@@ -48,6 +48,15 @@ request_at log position =
 abbrev pub views_of : Picture → List View
 views_of log = log.earlier ++ log.newest ∷ []
 
+-- the view of a version, where the log has it
+abbrev pub view_at : Picture → ℕ → Option View
+view_at log version = find (λ v. v.version.0 == version) (views_of log)
+
+-- each view has the version one above that of the view before it, and the last one the version below this
+abbrev pub AreNumbered : List View → ℕ → Type 0
+AreNumbered [] next = Unit {0}
+AreNumbered (v ∷ views) next = (v.version.0 + length (v ∷ views) ≡ next) × AreNumbered views next
+
 -- a primary is one of the members
 abbrev pub IsPrimaryOf : List ℕ → Option HostNo → Type 0
 IsPrimaryOf members None = Unit {0}
@@ -60,10 +69,11 @@ pub record IsLogged (view : View) : Type 0 where
 
 -- ---- what is true of every log
 
--- Positions fit, and the newest version does; retained entries are the journal's; where memory was taken,
--- there is room for one more of each.
-pub record IsSound (newest : View) (earlier mark entries : ℕ) (table : List Retained) : Type 0 where
-  pub first : earlier < newest.version.0
+-- Views are numbered up to the newest; positions fit, and the newest version does; retained entries are the
+-- journal's; where memory was taken, there is room for one more of each.
+pub record IsSound (newest : View) (earlier : List View) (mark entries : ℕ) (table : List Retained) : Type 0 where
+  pub numbered : AreNumbered earlier newest.version.0
+  pub first : length earlier < newest.version.0
   pub last : newest.version.0 ≤ VIEW_LIMIT
   pub fits : mark + entries ≤ JOURNAL_LIMIT
   pub positions : AllByRecursion (λ e. e.position < mark + entries) table

@@ -7,15 +7,11 @@ mod entries;
 mod laws;
 mod logs;
 mod opening;
-mod reading;
-mod records;
 mod reservations;
 #[cfg(test)]
 mod tests;
 mod tidying;
-mod writing;
 
 pub use answers::{Admit, Appended, LogFault, ReopenFault};
 pub use laws::{logs_say_what_journals_say, logs_stand_for_journals};
 pub use logs::Log;
-pub use records::{Accepted, Checkpoint, Record, RetainedList};

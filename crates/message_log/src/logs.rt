@@ -1,6 +1,6 @@
 ghost use Rattle.std.specs.Prelude.{◌≡◌, ◌+◌, ◌-◌, ◌<◌, ◌≤◌, ◌^◌, max, length, slice_get, option_copied, option_map, Some, None, Err, false, [], ◌∷◌, ◌++◌, vec_len, vec_capacity, MatchResult, OnOk, OnErr, nat_lt, if◌then◌else◌};
 ghost use Rattle.ft_outside.specs.Keeping.{failing_next, plan_after, IsForetold};
-ghost use Rattle.message_log.specs.Picture.{length_of, request_at, views_of, IsLogged};
+ghost use Rattle.message_log.specs.Picture.{length_of, request_at, view_at, AreNumbered, IsLogged};
 ghost use Rattle.message_log.specs.Admission.{admitted};
 ghost use Rattle.message_log.specs.Opening.{content_of, IsReopened, IsBad};
 ghost use Rattle.message_log.specs.Calls.{fresh, IsStarted, IsAppended, IsViewed, IsCheckpointed, with_outcome};
@@ -10,9 +10,9 @@ use crate::entries::Entry;
 use crate::opening::{Opening, read_all};
 use crate::reservations::Reservation;
 use crate::tidying::tidy;
-use crate::writing::{checkpoint_record, entry_record, view_record};
 use ft_base::{Bytes, JOURNAL_LIMIT, NoMemory, Outcome, Request, Tick, VIEW_LIMIT, Version, View};
 use ft_outside::{Keeper, Kept, MemKeeper};
+use log_records::{checkpoint_record, entry_record, view_record};
 use reply_table::{Found, ReplyTable};
 use std::alloc::Global;
 use std::marker::Model;
@@ -44,7 +44,7 @@ impl<K: Keeper> Model for Log<K> {
 
     ghost view = { λ l. record { newest = l.newest; earlier = l.earlier.items; mark = l.mark; entries = l.entries.items; time = l.time.0; state = l.state; table = l.table.entries; reserved = reserved_of l.reserved; records = K.records l.keeper; plan = K.plan l.keeper; faults = K.faults l.keeper } };
 
-    ghost invariant = { λ l. IsSound l.newest (vec_len l.earlier) l.mark (vec_len l.entries) l.table.entries
+    ghost invariant = { λ l. IsSound l.newest l.earlier.items l.mark (vec_len l.entries) l.table.entries
         × IsReady (l.mark + vec_len l.entries) l.time.0 l.reserved (HasRoom (K.spare l.keeper) (vec_len l.entries) (vec_capacity l.entries) l.table.room) };
 }
 
@@ -58,6 +58,12 @@ fn push_within<T: Drop>(items: &mut Vec<T>, item: T)
         Ok(()) => {}
         Err(_) => unreachable!(),
     }
+}
+
+fn view_at_place(views: &Vec<View>, place: usize) -> Option<&View>
+    ensures { option_copied result ≡ slice_get views.now.items place }
+{
+    views.get(place)
 }
 
 /// Writes a log's first record.
@@ -172,6 +178,28 @@ impl<K: Keeper> Log<K> {
         &self.newest
     }
 
+    /// The view of a version, where the log has it. A log has every view of its group, the first one
+    /// included; one that was opened again has the newest view that its records tell, and those
+    /// that it was given since.
+    pub fn view(&self, version: Version) -> Option<&View>
+        ensures value { option_copied result ≡ view_at self.now version.0 }
+        ensures numbered { AreNumbered self.now.earlier self.now.newest.version.0 }
+    {
+        let newest = self.newest.version.0;
+        let count = self.earlier.len();
+        if version.0 == newest {
+            return Some(&self.newest);
+        }
+        if version.0 > newest {
+            return None;
+        }
+        let back = (newest - version.0) as usize;
+        if back > count {
+            return None;
+        }
+        view_at_place(&self.earlier, count - back)
+    }
+
     /// How many entries the last checkpoint made needless; 0 where none was taken.
     pub fn mark(&self) -> u32
         ensures { result ≡ self.now.mark }
@@ -232,7 +260,9 @@ impl<K: Keeper> Log<K> {
         }
     }
 
-    /// Takes the memory of one entry: its record, room in the keeper, and room for the entry and its reply.
+    /// Takes the memory of one entry: its record, room in the keeper, and room for the entry and its
+    /// reply. There is none for a version that no view can have, nor for a request that is too long
+    /// for a record.
     pub fn reserve(
         &mut self,
         alloc: Global,
@@ -241,8 +271,12 @@ impl<K: Keeper> Log<K> {
         request: &Request,
     ) -> Result<(), NoMemory>
         ensures ok { OnOk result (self.new ≡ record self.old { reserved = Some (record { version = version; clock = clock; request = request.now }) }) }
+        ensures possible { OnOk result (version.0 ≤ VIEW_LIMIT) }
         ensures left { OnErr result (self.new ≡ self.old) }
     {
+        if version.0 > VIEW_LIMIT {
+            return Err(NoMemory);
+        }
         let position = self.length();
         let at = Tick(clock.0.max(self.time.0));
         let record = entry_record(alloc, position, version, at, request)?;

@@ -3,16 +3,14 @@ ghost use Rattle.std.specs.Prelude.{◌≡◌, ◌<◌, ◌≤◌, true, [], is_
 ghost use Rattle.std.specs.List.{AllByRecursion};
 ghost use Rattle.ft_base.specs.declared.limits.TheConstants.{VIEW_LIMIT, JOURNAL_LIMIT};
 ghost use Rattle.reply_table.specs.Entries.{IsAfter};
-ghost use Rattle.message_log.specs.Records.{are_rising, record_in};
-ghost use Rattle.message_log.specs.Opening.{nothing_yet, repeats, may_follow, after_view, after_entry, after_checkpoint, after_record, with_retained, filed, after_piece, content_of, IsInRange, IsTold, IsFound};
+ghost use Rattle.log_records.specs.Records.{are_rising, record_in, IsInRange};
+ghost use Rattle.message_log.specs.Opening.{nothing_yet, repeats, may_follow, after_view, after_entry, after_checkpoint, after_record, with_retained, filed, after_piece, content_of, IsTold, IsFound};
 
 use crate::answers::ReopenFault;
 use crate::entries::Entry;
-use crate::reading::record_in;
-use crate::records::{Accepted, Checkpoint, Record, RetainedList};
-use crate::writing::primary_octet;
 use ft_base::{Bytes, NoMemory, Tick, View};
 use ft_outside::Keeper;
+use log_records::{Accepted, Checkpoint, Record, RetainedList, primary_octet, record_in};
 use reply_table::{ReplyTable, Retained};
 use std::alloc::Global;
 use std::marker::Model;

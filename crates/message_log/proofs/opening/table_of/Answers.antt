@@ -3,7 +3,7 @@ use Rattle.std.specs.List.{AllByRecursion}
 use Rattle.std.specs.Vec.Iter.{into_iter_items}
 use Rattle.reply_table.specs.declared.entries.Retained.{Retained}
 use Rattle.message_log.specs.Opening.{filed, with_retained}
-use Rattle.message_log.specs.Records.{are_rising}
+use Rattle.log_records.specs.Records.{are_rising}
 use Rattle.message_log.proofs.ContentLaws.{rises, below_retained}
 use Rattle.message_log.proofs.PictureLaws.{below}
 use Rattle.message_log.proofs.opening.table_of.Goals as goal

@@ -1,7 +1,7 @@
 use Rattle.std.proofs.Common.{◌≡◌, ℕ, ◌<◌, true, []}
 use Rattle.std.specs.Vec.Iter.{into_iter_items, into_iter_len}
 use Rattle.std.specs.List.{AllByRecursion}
-use Rattle.message_log.specs.Records.{are_rising}
+use Rattle.log_records.specs.Records.{are_rising}
 use Rattle.message_log.specs.Opening.{filed}
 use Rattle.message_log.proofs.opening.table_of.Given as goal
 

@@ -8,8 +8,9 @@ use Rattle.ft_outside.specs.Keeping.{IsForetold, plan_after}
 use Rattle.reply_table.specs.Entries.{Table, joined, unanswered}
 use Rattle.reply_table.specs.declared.entries.Retained.{Retained}
 use Rattle.message_log.specs.Picture.{Picture, Reserved, IsSound, HasRoom, length_of}
-use Rattle.message_log.specs.Calls.{IsReady, reserved_of, entry_record}
-use Rattle.message_log.specs.declared.records.Accepted.{Accepted}
+use Rattle.log_records.specs.Records.{entry_record}
+use Rattle.message_log.specs.Calls.{IsReady, reserved_of}
+use Rattle.log_records.specs.declared.records.Accepted.{Accepted}
 use Rattle.message_log.proofs.PictureLaws.{sound_appended, ready_none, ready_some, taken_is, new_has_room}
 use Rattle.message_log.proofs.logs.Log.append_reserved.Goals as goal
 
@@ -23,9 +24,9 @@ invariant_of-self-in-Done g c =
     let room : l.mark + vec_len l.entries < JOURNAL_LIMIT = omega (arith, new, long) in
     let row = unanswered c.length-position.result c.args.version (record { 0 = c.max.result }) c.in-Some.taken.request in
     let entries : c.put_reserved.new.self.entries ≡ joined l.table.entries row c.in-Some.taken.request.key = ap (λ (t : Table). t.entries) c.put_reserved.ensures in (
-      subst (λ (rs : List Retained). IsSound l.newest (vec_len l.earlier) l.mark (vec_len c.push_within.new.items) rs) (sym entries)
-          (subst (λ (n : ℕ). IsSound l.newest (vec_len l.earlier) l.mark n (joined l.table.entries row c.in-Some.taken.request.key)) (sym c.push_within.ensures.len)
-          (sound_appended l.newest (vec_len l.earlier) l.mark (vec_len l.entries) l.table.entries row c.in-Some.taken.request.key c.self.invariant.0 room position)),
+      subst (λ (rs : List Retained). IsSound l.newest l.earlier.items l.mark (vec_len c.push_within.new.items) rs) (sym entries)
+          (subst (λ (n : ℕ). IsSound l.newest l.earlier.items l.mark n (joined l.table.entries row c.in-Some.taken.request.key)) (sym c.push_within.ensures.len)
+          (sound_appended l.newest l.earlier.items l.mark (vec_len l.entries) l.table.entries row c.in-Some.taken.request.key c.self.invariant.0 room position)),
       ready_none (l.mark + vec_len c.push_within.new.items) c.max.result c.take.new.self
           (HasRoom (g.K.Keeper.spare c.append.new.self) (vec_len c.push_within.new.items) (vec_capacity c.push_within.new.items) c.put_reserved.new.self.room)
           c.take.ensures.after,

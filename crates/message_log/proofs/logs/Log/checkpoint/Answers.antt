@@ -4,7 +4,7 @@ use Rattle.ft_outside.specs.Keeping.{IsForetold, plan_after}
 use Rattle.reply_table.specs.Entries.{Table, unexpired}
 use Rattle.reply_table.specs.declared.entries.Retained.{Retained}
 use Rattle.message_log.specs.Picture.{Picture, IsSound, length_of}
-use Rattle.message_log.specs.Calls.{checkpoint_record, view_record}
+use Rattle.log_records.specs.Records.{checkpoint_record, view_record}
 use Rattle.message_log.proofs.PictureLaws.{sound_checkpointed}
 use Rattle.message_log.proofs.logs.Log.checkpoint.Goals as goal
 
@@ -16,8 +16,8 @@ invariant_of-self-2 g c =
     c.length-mark.ensures.value ∙ ap length_of (sym c.self.view_is) ∙ ap (λ (n : ℕ). l.mark + n) (sym len)
     in
     let entries : c.purge.new.self.entries ≡ unexpired c.max.result l.table.entries = ap (λ (t : Table). t.entries) c.purge.ensures in (
-      subst (λ (rs : List Retained). IsSound l.newest (vec_len l.earlier) c.length-mark.result (vec_len c.clear.new.self) rs) (sym entries)
-          (sound_checkpointed l.newest (vec_len l.earlier) l.mark (vec_len l.entries) c.max.result c.length-mark.result (vec_len c.clear.new.self) l.table.entries c.self.invariant.0
+      subst (λ (rs : List Retained). IsSound l.newest l.earlier.items c.length-mark.result (vec_len c.clear.new.self) rs) (sym entries)
+          (sound_checkpointed l.newest l.earlier.items l.mark (vec_len l.entries) c.max.result c.length-mark.result (vec_len c.clear.new.self) l.table.entries c.self.invariant.0
           end c.clear.ensures.len),
       tt,
     )

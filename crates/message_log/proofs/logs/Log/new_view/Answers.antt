@@ -1,6 +1,6 @@
 use Rattle.std.proofs.Common.{◌≡◌, ℕ, ◌+◌, ◌<◌, List, [], ◌∷◌, ◌++◌, Option, Some, None, Bool, false, ap, subst, sym, ◌∙◌, arith, refl}
 use Rattle.ft_outside.specs.Keeping.{IsForetold, plan_after}
-use Rattle.message_log.specs.Calls.{view_record}
+use Rattle.log_records.specs.Records.{view_record}
 use Rattle.message_log.proofs.logs.Log.new_view.Goals as goal
 
 pub returns-in-Done : goal.returns-in-Done

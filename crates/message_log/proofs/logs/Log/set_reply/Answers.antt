@@ -13,8 +13,8 @@ invariant_of-self g c =
     let l = c.self.inside in
     let entries = ap (λ (t : Table). t.entries) c.set_reply.ensures in
     let room = ap (λ (t : Table). t.room) c.set_reply.ensures in (
-      subst (λ (rs : List Retained). IsSound l.newest (vec_len l.earlier) l.mark (vec_len l.entries) rs) (sym entries)
-          (sound_answered l.newest (vec_len l.earlier) l.mark (vec_len l.entries) c.args.position c.args.outcome l.table.entries c.self.invariant.0),
+      subst (λ (rs : List Retained). IsSound l.newest l.earlier.items l.mark (vec_len l.entries) rs) (sym entries)
+          (sound_answered l.newest l.earlier.items l.mark (vec_len l.entries) c.args.position c.args.outcome l.table.entries c.self.invariant.0),
       subst (λ (b : Bool). IsReady (l.mark + vec_len l.entries) l.time.0 l.reserved (HasRoom (g.K.Keeper.spare l.keeper) (vec_len l.entries) (vec_capacity l.entries) b)) (sym room)
           c.self.invariant.1,
     )

@@ -1,11 +1,12 @@
 //! Records, read.
 ghost use Rattle.std.specs.Prelude.{◌≡◌, ◌≤◌, ◌<◌, ◌+◌, ◌^◌, ℕ, true, length, IfOk, IfSome};
-ghost use Rattle.message_log.specs.Opening.{IsInRange};
+ghost use Rattle.log_records.specs.Records.{IsInRange};
 ghost use Rattle.ft_base.specs.declared.limits.TheConstants.{VIEW_LIMIT, JOURNAL_LIMIT};
 ghost use Rattle.cdr_codec.specs.Calls.{field_fault, Gives};
 ghost use Rattle.cdr_codec.specs.Formats.{read_each};
 ghost use Rattle.cdr_codec.specs.Reading.{start};
-ghost use Rattle.message_log.specs.Records as forms;
+ghost use Rattle.log_records.specs.Records as forms;
+ghost use Rattle.log_records.specs.Spelling.{IsSpelledAs};
 
 use crate::records::{Accepted, Checkpoint, Record, RetainedList};
 use crate::writing::{CHECKPOINT, ENTRY, RECORD_LIMIT, VIEW};
@@ -309,7 +310,7 @@ fn record_at(alloc: Global, reader: &mut CdrReader) -> Result<Record, FieldFault
 
 /// The record that a piece is, if it is one.
 #[tactic(auto, unfolding(crate::specs::Records::record_in))]
-pub(crate) fn record_in(alloc: Global, piece: &[u8]) -> Result<Option<Record>, NoMemory>
+fn read_whole(alloc: Global, piece: &[u8]) -> Result<Option<Record>, NoMemory>
     ensures read { IfOk result (λ told. told ≡ forms.record_in piece.now) }
     ensures range { IfOk result (λ told. IfSome told IsInRange) }
 {
@@ -327,4 +328,14 @@ pub(crate) fn record_in(alloc: Global, piece: &[u8]) -> Result<Option<Record>, N
         Ok(_) | Err(FieldFault::Bad(_)) => Ok(None),
         Err(FieldFault::NoMemory) => Err(NoMemory),
     }
+}
+
+/// The record that a piece of bytes spells; none where it spells none, and then nothing is said of
+/// where it goes wrong. A piece of 2^32 - 8 bytes or more is no record.
+pub fn record_in(alloc: Global, piece: &[u8]) -> Result<Option<Record>, NoMemory>
+    ensures spelled { IfOk result (λ told. IsSpelledAs piece.now told) }
+    ensures read { IfOk result (λ told. told ≡ forms.record_in piece.now) }
+    ensures range { IfOk result (λ told. IfSome told IsInRange) }
+{
+    read_whole(alloc, piece)
 }

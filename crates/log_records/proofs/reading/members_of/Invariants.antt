@@ -1,6 +1,6 @@
 use Rattle.std.proofs.Common.{◌≡◌, drop, []}
-use Rattle.message_log.specs.Records.{members_from}
-use Rattle.message_log.proofs.reading.members_of.Given as goal
+use Rattle.log_records.specs.Records.{members_from}
+use Rattle.log_records.proofs.reading.members_of.Given as goal
 
 -- those that joined, and those that are left
 abbrev pub invariant-loop-host : goal.invariant-loop-host

@@ -1,8 +1,8 @@
 use Rattle.std.proofs.Common.{◌≡◌, drop}
 use Rattle.cdr_codec.specs.Calls.{appended_each}
 use Rattle.reply_table.specs.Entries.{unexpired}
-use Rattle.message_log.specs.Records.{retained}
-use Rattle.message_log.proofs.writing.write_unexpired.Given as goal
+use Rattle.log_records.specs.Records.{retained}
+use Rattle.log_records.proofs.writing.write_unexpired.Given as goal
 
 -- those that are left, behind what was written
 abbrev pub invariant-loop-index : goal.invariant-loop-index

@@ -1,8 +1,8 @@
 use Rattle.std.proofs.Common.{◌≡◌, ◌-◌}
 use Rattle.cdr_codec.specs.Formats.{read_each}
 use Rattle.cdr_codec.proofs.CodecLaws.{with_front}
-use Rattle.message_log.specs.Records.{retained}
-use Rattle.message_log.proofs.reading.each_retained.Given as goal
+use Rattle.log_records.specs.Records.{retained}
+use Rattle.log_records.proofs.reading.each_retained.Given as goal
 
 -- those that were read, in front of those that are left
 abbrev pub invariant-loop : goal.invariant-loop

@@ -1,6 +1,6 @@
 use Rattle.std.proofs.Common.{◌≡◌, ◌+◌, ◌≤◌, length, drop}
 use Rattle.reply_table.specs.Entries.{unexpired}
-use Rattle.message_log.proofs.writing.count_unexpired.Given as goal
+use Rattle.log_records.proofs.writing.count_unexpired.Given as goal
 
 -- those that were counted, and those that are left
 abbrev pub invariant-loop-index : goal.invariant-loop-index

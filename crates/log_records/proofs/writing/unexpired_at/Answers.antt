@@ -1,7 +1,7 @@
-use Rattle.std.proofs.Common.{sym, ◌∙◌}
-use Rattle.message_log.proofs.WritingLaws.{unexpired_here, expired_here, none_here}
-use Rattle.message_log.proofs.writing.unexpired_at.Goals as goal
-use Rattle.message_log.proofs.writing.unexpired_at.Goals.{in_default-via-in-Some+else-is_unexpired, in_default-via-in_default}
+use Rattle.std.proofs.Common.{sym}
+use Rattle.log_records.proofs.WritingLaws.{unexpired_here, expired_here, none_here}
+use Rattle.log_records.proofs.writing.unexpired_at.Goals as goal
+use Rattle.log_records.proofs.writing.unexpired_at.Goals.{in_default-via-in-Some+else-is_unexpired, in_default-via-in_default}
 
 pub returns-in-Some : goal.returns-in-Some
 returns-in-Some c =

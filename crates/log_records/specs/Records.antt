@@ -1,10 +1,10 @@
 -- The records of a log: an entry, a view, a checkpoint. Each is an encapsulation in big endian order whose
 -- first octet gives its form. A value out of its range isn't read.
-use Rattle.std.specs.Prelude.{◌≡◌, ℕ, ◌+◌, ◌==◌, ◌&&◌, Bool, true, false, not, nat_le, nat_lt, if◌then◌else◌, List, [], ◌∷◌, ◌++◌, length, slice_get, Result, Err, ◌^◌, is_some, Option, Some, None, option_map, Ok}
+use Rattle.std.specs.Prelude.{◌≡◌, ℕ, ◌+◌, ◌<◌, ◌≤◌, ◌==◌, ◌&&◌, Bool, true, false, not, nat_le, nat_lt, if◌then◌else◌, List, [], ◌∷◌, ◌++◌, length, Result, Err, is_some, Option, Some, None, Ok}
 use Rattle.std.specs.Int.{w32}
-use Rattle.std.specs.List.{list_any}
 use Rattle.ft_base.specs.Members.{is_member}
 use Rattle.ft_base.specs.Text.{name_refusal}
+use Rattle.ft_base.specs.declared.limits.TheConstants.{VIEW_LIMIT, JOURNAL_LIMIT}
 use Rattle.ft_base.specs.declared.numbers.HostNo.{HostNo}
 use Rattle.ft_base.specs.declared.numbers.Tick.{Tick}
 use Rattle.ft_base.specs.declared.numbers.Version.{Version}
@@ -19,15 +19,16 @@ use Rattle.cdr_codec.specs.declared.faults.CdrWhy.TheVariants.{BadBool, BadStrin
 use Rattle.cdr_codec.specs.declared.orders.Order.{Order}
 use Rattle.cdr_codec.specs.declared.orders.Order.TheVariants.{Big, Little}
 use Rattle.cdr_codec.specs.Reading.{Reader, Fault, fault_at, Read, ◌>>=◌}
-use Rattle.cdr_codec.specs.Encapsulations.{opened}
-use Rattle.cdr_codec.specs.Formats.{Format, number, octets, sequence, judged, shaped, nothing}
+use Rattle.cdr_codec.specs.Calls.{Writer, appended}
+use Rattle.cdr_codec.specs.Encapsulations.{opened, encapsulated}
+use Rattle.cdr_codec.specs.Formats.{Format, number, octets, sequence, judged, shaped}
 use Rattle.cdr_codec.specs.Structs.{Fields, field, whole, struct}
 use Rattle.cdr_codec.specs.Values.{boolean, text, signed}
 use Rattle.reply_table.specs.declared.entries.Retained.{Retained}
-use Rattle.message_log.specs.declared.records.Accepted.{Accepted}
-use Rattle.message_log.specs.declared.records.Checkpoint.{Checkpoint}
-use Rattle.message_log.specs.declared.records.Record.{Record}
-use Rattle.message_log.specs.declared.records.Record.TheVariants as records
+use Rattle.log_records.specs.declared.records.Accepted.{Accepted}
+use Rattle.log_records.specs.declared.records.Checkpoint.{Checkpoint}
+use Rattle.log_records.specs.declared.records.Record.{Record}
+use Rattle.log_records.specs.declared.records.Record.TheVariants as records
 
 -- ---- ranges
 
@@ -233,9 +234,14 @@ checkpoint = struct checkpoint_fields
 abbrev pub is_form : ℕ → ℕ → Option (Unit {0})
 is_form form n = if n == form then Some tt else None
 
+abbrev pub form_octet : ℕ → Format CdrWhy (Unit {0})
+form_octet form = judged (number 1) 1 out_of_range (is_form form) (λ _. form)
+
+abbrev pub formed_fields : {X : Type 0} → ℕ → Format CdrWhy X → Fields CdrWhy X
+formed_fields form f = field (form_octet form) (λ _. tt) (λ _. field f (λ x. x) (λ x. whole x))
+
 abbrev pub formed : {X : Type 0} → ℕ → Format CdrWhy X → Format CdrWhy X
-formed form f =
-    struct (field (judged (number 1) 1 out_of_range (is_form form) (λ _. form)) (λ _. tt) (λ _. field f (λ x. x) (λ x. whole x)))
+formed form f = struct (formed_fields form f)
 
 -- ---- a record is read whole
 
@@ -269,3 +275,24 @@ record_read r = (number 1).read r >>= λ form. record_by form.0 r.place form.1
 -- the record that a piece is, with the octets of its order and its form, and nothing behind it
 unfoldable pub record_in : List ℕ → Option Record
 record_in piece = if nat_lt (length piece + 8) 4294967296 then in_big record_read (opened piece) else None
+
+-- what a record's reading gives is in its ranges
+abbrev pub IsInRange : Record → Type 0
+IsInRange (records.Entry e) = e.position < JOURNAL_LIMIT
+IsInRange (records.View v) = (0 < v.version.0) × (v.version.0 ≤ VIEW_LIMIT)
+IsInRange (records.Checkpoint k) = (k.mark ≤ JOURNAL_LIMIT) × (are_rising 0 k.mark k.retained ≡ true)
+
+-- ---- records, written
+
+-- the writer behind the octets of the order and of the form
+abbrev pub begun : ℕ → Writer
+begun form = appended (number 1).written form (record { order = Big; place = 0; text = 0 ∷ [] })
+
+unfoldable pub entry_record : Accepted → List ℕ
+entry_record accepted = encapsulated Big (formed 1 entry) accepted
+
+unfoldable pub view_record : View → List ℕ
+view_record v = encapsulated Big (formed 2 view) v
+
+unfoldable pub checkpoint_record : Checkpoint → List ℕ
+checkpoint_record c = encapsulated Big (formed 3 checkpoint) c

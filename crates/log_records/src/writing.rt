@@ -4,8 +4,8 @@ ghost use Rattle.std.specs.List.{cons_option};
 ghost use Rattle.cdr_codec.specs.Calls.{appended, appended_each};
 ghost use Rattle.cdr_codec.specs.Formats.{octets};
 ghost use Rattle.reply_table.specs.Entries.{is_unexpired, unexpired};
-ghost use Rattle.message_log.specs.Records as forms;
-ghost use Rattle.message_log.specs.Calls.{entry_record, view_record, checkpoint_record, begun};
+ghost use Rattle.log_records.specs.Records as forms;
+ghost use Rattle.log_records.specs.Records.{entry_record, view_record, checkpoint_record, begun};
 
 use cdr_codec::{CdrWriter, Order, begin_encapsulation};
 use ft_base::{Bytes, HostNo, Key, NoMemory, Outcome, Request, Tick, Version, View};
@@ -109,8 +109,8 @@ fn finish(writer: CdrWriter) -> Result<Bytes, NoMemory>
 }
 
 /// The record of an accepted request.
-#[tactic(auto, using(crate::proofs::WritingLaws::formed_written), unfolding(crate::specs::Calls::entry_record))]
-pub(crate) fn entry_record(
+#[tactic(auto, using(crate::proofs::WritingLaws::formed_written), unfolding(crate::specs::Records::entry_record))]
+pub fn entry_record(
     alloc: Global,
     position: u32,
     version: Version,
@@ -124,7 +124,8 @@ pub(crate) fn entry_record(
     finish(writer)
 }
 
-pub(crate) fn primary_octet(primary: Option<HostNo>) -> u8
+/// The octet that tells a primary: its number, or 255 for none.
+pub fn primary_octet(primary: Option<HostNo>) -> u8
     ensures { result ≡ forms.primary_sign primary }
 {
     match primary {
@@ -146,8 +147,8 @@ fn write_view(writer: &mut CdrWriter, view: &View) -> Result<(), NoMemory>
 }
 
 /// The record of a view.
-#[tactic(auto, using(crate::proofs::WritingLaws::formed_written), unfolding(crate::specs::Calls::view_record))]
-pub(crate) fn view_record(alloc: Global, view: &View) -> Result<Bytes, NoMemory>
+#[tactic(auto, using(crate::proofs::WritingLaws::formed_written), unfolding(crate::specs::Records::view_record))]
+pub fn view_record(alloc: Global, view: &View) -> Result<Bytes, NoMemory>
     ensures { IfOk result (λ bytes. bytes ≡ view_record view.now) }
 {
     let mut writer = begin(alloc, VIEW)?;
@@ -287,8 +288,8 @@ fn write_checkpoint(
 }
 
 /// The record of a checkpoint at this mark and time, with the entries of a table that have not expired.
-#[tactic(auto, using(crate::proofs::WritingLaws::formed_written), unfolding(crate::specs::Calls::checkpoint_record))]
-pub(crate) fn checkpoint_record(
+#[tactic(auto, using(crate::proofs::WritingLaws::formed_written), unfolding(crate::specs::Records::checkpoint_record))]
+pub fn checkpoint_record(
     alloc: Global,
     mark: u32,
     time: Tick,

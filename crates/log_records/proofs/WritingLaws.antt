@@ -1,5 +1,5 @@
 -- A record is written field by field.
-use Rattle.std.proofs.Common.{◌≡◌, ℕ, zero, suc, ◌+◌, Bool, true, false, List, [], ◌∷◌, ◌++◌, length, Option, Some, None, refl, sym, ap, ◌∙◌, append-nil, add-one, cond}
+use Rattle.std.proofs.Common.{◌≡◌, ℕ, zero, suc, ◌+◌, true, false, List, [], ◌∷◌, length, Some, None, refl, sym, ap, ◌∙◌, append-nil, add-one, cond}
 use Rattle.std.specs.Prelude.{◌%◌, drop, slice_get}
 use Rattle.std.specs.Int.{w32}
 use Rattle.cdr_codec.specs.declared.faults.CdrWhy.{CdrWhy}
@@ -9,20 +9,16 @@ use Rattle.cdr_codec.specs.Encapsulations.{encapsulated}
 use Rattle.cdr_codec.specs.Formats.{Format, number, octets}
 use Rattle.cdr_codec.specs.Values.{boolean, text, signed}
 use Rattle.cdr_codec.proofs.StructLaws.{struct_written}
-use Rattle.cdr_codec.proofs.Writing.{nothing_written, sequence_written}
+use Rattle.cdr_codec.proofs.Writing.{sequence_written}
 use Rattle.ft_base.specs.declared.numbers.Tick.{Tick}
 use Rattle.ft_base.specs.declared.numbers.Version.{Version}
 use Rattle.ft_base.specs.declared.requests.Key.{Key}
-use Rattle.ft_base.specs.declared.requests.Outcome.{Outcome}
 use Rattle.ft_base.specs.declared.requests.Outcome.TheVariants.{Value, User}
 use Rattle.ft_base.specs.declared.requests.Request.{Request}
 use Rattle.ft_base.specs.declared.views.View.{View}
 use Rattle.reply_table.specs.Entries.{is_unexpired, unexpired}
 use Rattle.reply_table.specs.declared.entries.Retained.{Retained}
-use Rattle.message_log.specs.Records.{optional, optional_fields, key, key_fields, request, request_fields, entry, entry_fields, view, view_fields, primary_sign, outcome, outcome_fields, retained, retained_fields, checkpoint, checkpoint_fields, formed}
-use Rattle.message_log.specs.Calls.{begun}
-use Rattle.message_log.specs.declared.records.Accepted.{Accepted}
-use Rattle.message_log.specs.declared.records.Checkpoint.{Checkpoint}
+use Rattle.log_records.specs.Records.{optional, optional_fields, key, key_fields, request, request_fields, entry, entry_fields, view, view_fields, primary_sign, outcome, outcome_fields, retained, retained_fields, checkpoint, checkpoint_fields, formed, begun}
 
 pub key_written : (k : Key) (w : Writer) → appended key.written k w
     ≡ appended (number 8).written k.expiration.0 (appended (signed w32).written k.retention.0 (appended text.written k.client w))

@@ -1,6 +1,6 @@
 use Rattle.std.proofs.Common.{◌≡◌, drop}
-use Rattle.message_log.specs.Records.{are_rising}
-use Rattle.message_log.proofs.reading.are_rising.Given as goal
+use Rattle.log_records.specs.Records.{are_rising}
+use Rattle.log_records.proofs.reading.are_rising.Given as goal
 
 -- what is left decides
 abbrev pub invariant-loop-entry : goal.invariant-loop-entry

@@ -3,8 +3,8 @@ use Rattle.std.proofs.lemmas.Result.{err_from_is_err_and}
 use Rattle.cdr_codec.specs.Formats.{read_each}
 use Rattle.cdr_codec.specs.Calls.{field_fault}
 use Rattle.cdr_codec.proofs.CodecLaws.{goes_on, ends_for, is_done}
-use Rattle.message_log.specs.Records.{retained}
-use Rattle.message_log.proofs.reading.each_retained.Goals as goal
+use Rattle.log_records.specs.Records.{retained}
+use Rattle.log_records.proofs.reading.each_retained.Goals as goal
 
 pub returns-in_err-one : goal.returns-in_err-one
 returns-in_err-one c =

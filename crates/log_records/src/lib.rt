@@ -1,0 +1,16 @@
+//! The records of a group's log, as bytes: an accepted request, a view, a checkpoint. (Chapter 23,
+//! Logging and Recovery Mechanisms.)
+//!
+//! A record is an encapsulation in big endian order, and its first octet gives its form. Each is
+//! written from the values that it tells, and is read as exactly the record that its bytes spell.
+#![tactic(auto)]
+
+mod reading;
+mod records;
+#[cfg(test)]
+mod tests;
+mod writing;
+
+pub use reading::record_in;
+pub use records::{Accepted, Checkpoint, Record, RetainedList};
+pub use writing::{checkpoint_record, entry_record, primary_octet, view_record};
