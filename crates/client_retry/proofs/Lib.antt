@@ -1,0 +1,3 @@
+pub mod CountingLaws
+pub mod Examples
+pub mod ClientLaws

@@ -1,0 +1,8 @@
+use Rattle.client_retry.proofs.ClientLaws.{begin, go_on}
+use Rattle.client_retry.proofs.laws.ids_go_on.Goals as goal
+
+pub returns-clause-started : goal.returns-clause-started
+returns-clause-started c = begin
+
+pub returns-clause-heard : goal.returns-clause-heard
+returns-clause-heard c = go_on
