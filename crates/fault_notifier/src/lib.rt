@@ -1,0 +1,22 @@
+//! Who is told of the faults of members. (Chapter 23, FaultNotifier.)
+//!
+//! A notifier keeps all fault events in order, and for each subscriber the place from which its
+//! events are still to be read: it is told of those that were pushed since its connection and that
+//! its filter lets through.
+#![tactic(auto)]
+
+mod events;
+mod faults;
+mod filters;
+mod limits;
+mod notifiers;
+mod subscribers;
+#[cfg(test)]
+mod tests;
+
+pub use events::FaultEvent;
+pub use faults::{FilterFault, NotifyFault};
+pub use filters::Filter;
+pub use limits::{CONNECTION_LIMIT, EVENT_LIMIT, SUBSCRIBER_LIMIT};
+pub use notifiers::Notifier;
+pub use subscribers::Sub;
