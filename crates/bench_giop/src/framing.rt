@@ -60,10 +60,22 @@ fn run_by(rt: &HostRuntime, link: &[u8], mebibytes: u32, size: usize) -> Result<
     Ok(())
 }
 
+// A header alone takes no room for what it announces.
+fn run_announced(rt: &HostRuntime) -> Result<()> {
+    let mut framer = Framer::new(rt.alloc());
+    let count = feed(&mut framer, b"GIOP\x01\x02\0\0\0\x0f\xff\xf4", 12)?;
+    println!(rt;
+        "1 MiB announced: {count} messages, {} bytes wait",
+        framer.unfinished()
+    )?;
+    Ok(())
+}
+
 /// Feeds a framer so many MiB of requests in pieces of 1, 64 and 65,536 bytes.
 pub fn run(rt: &HostRuntime, mebibytes: u32) -> Result<()> {
     let count = (MEBIBYTE / REQUEST_LENGTH) as u32;
     let link = write_deposits(rt.alloc(), count).map_err(|_| anyhow!("no memory"))?;
+    run_announced(rt)?;
     for size in [1, 64, 65_536] {
         run_by(rt, link.as_slice(), mebibytes, size)?;
     }

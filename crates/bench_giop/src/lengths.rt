@@ -9,6 +9,14 @@ use std::alloc::Global;
 const REQUEST: &[u8; 100] =
     b"GIOP\x01\x02\0\0\0\0\0\x58\0\0\0\x01\x03\0\0\0\0\0\0\0\0\0\0\x0cFTOG\0\0\0\0\0\0\0\x01\0\0\0\x08deposit\0\0\0\0\0\0\0\0\0\0\0\0\x05\0\0\0\0\0\0\0\0\0\0\0\0\0\0\0\0\0\0\0\0\0\0\0\0\0\0\0\0\0\0\0\0\0\0\0\0";
 
+// A LocateRequest with a reference of 4,294,967,295 profiles, and 96 bytes of them.
+const PROFILES: &[u8; 132] =
+    b"GIOP\x01\x02\0\x03\0\0\0\x78\0\0\0\x09\0\x02\0\0\0\0\0\0\0\0\0\x01\0\0\0\0\xff\xff\xff\xff\0\0\0\0\0\0\0\0\0\0\0\0\0\0\0\0\0\0\0\0\0\0\0\0\0\0\0\0\0\0\0\0\0\0\0\0\0\0\0\0\0\0\0\0\0\0\0\0\0\0\0\0\0\0\0\0\0\0\0\0\0\0\0\0\0\0\0\0\0\0\0\0\0\0\0\0\0\0\0\0\0\0\0\0\0\0\0\0\0\0\0\0\0\0\0\0";
+
+// A LocateRequest with a reference whose profile has 4,294,967,295 components, and no bytes of them.
+const COMPONENTS: &[u8; 68] =
+    b"GIOP\x01\x02\0\x03\0\0\0\x38\0\0\0\x09\0\x02\0\0\0\0\0\0\0\0\0\x01\0\0\0\0\0\0\0\x01\0\0\0\0\0\0\0\x18\0\x01\x02\0\0\0\0\x02h\0\x07\xd0\0\0\0\x03key\0\xff\xff\xff\xff";
+
 // The request with a length of 4 GiB less 16 bytes at this place.
 fn lengthened(alloc: Global, place: usize) -> Result<Vec<u8>, NoMemory>
     requires { place < 97 }
@@ -21,8 +29,8 @@ fn lengthened(alloc: Global, place: usize) -> Result<Vec<u8>, NoMemory>
 }
 
 fn refusal(alloc: Global, text: &[u8]) -> Result<ReadFault> {
-    if text.len() != REQUEST.len() {
-        return Err(anyhow!("no message of 100 bytes"));
+    if text.len() > 1000 {
+        return Err(anyhow!("no short message"));
     }
     match read_message(alloc, text) {
         Ok(_) => Err(anyhow!("a message was read")),
@@ -39,10 +47,18 @@ fn run_at(rt: &HostRuntime, name: &str, place: usize) -> Result<()>
     Ok(())
 }
 
-/// Reads messages of 100 bytes with a length that says about 4 GiB.
+fn run_over(rt: &HostRuntime, name: &str, text: &[u8]) -> Result<()> {
+    let fault = refusal(rt.alloc(), text)?;
+    println!(rt; "4,294,967,295 {name}: {fault}")?;
+    Ok(())
+}
+
+/// Reads messages of 100 bytes or so with a length that says about 4 GiB, or a count of about as many.
 pub fn run(rt: &HostRuntime) -> Result<()> {
     run_at(rt, "size", 8)?;
     run_at(rt, "key", 24)?;
     run_at(rt, "operation", 40)?;
-    run_at(rt, "contexts", 52)
+    run_at(rt, "contexts", 52)?;
+    run_over(rt, "profiles", PROFILES.as_slice())?;
+    run_over(rt, "components", COMPONENTS.as_slice())
 }

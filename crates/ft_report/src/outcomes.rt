@@ -1,9 +1,9 @@
-ghost use Rattle.std.specs.Prelude.{◌≡◌, ◌≤◌, ◌∷◌, [], Some, length, IfOk};
+ghost use Rattle.std.specs.Prelude.{◌≡◌, ◌<◌, ◌+◌, ◌^◌, ◌∷◌, [], Some, length, IfOk};
 ghost use Rattle.ft_base.specs.Canonical.{IsCanonical, one_of};
 ghost use Rattle.ft_report.specs.Worth.{printed_value, worth_in, IsWorth};
 
 use cdr_codec::{CdrReader, FieldFault, Order, canonical_forms_are_read, read_value};
-use ft_base::{Bytes, Name, NoMemory, Par, RESULT_LIMIT, Value, Version};
+use ft_base::{Bytes, Name, NoMemory, Par, Value, Version};
 use std::alloc::Global;
 use sys_faults::SysFault;
 
@@ -91,7 +91,7 @@ fn printed_value(value: Value) -> Worth
 
 fn worth_of_one(alloc: Global, par: Par, bytes: &[u8]) -> Result<Worth, NoMemory>
     requires canonical { IsCanonical (par ∷ []) bytes.now }
-    requires short { length bytes.now ≤ RESULT_LIMIT }
+    requires short { length bytes.now + 8 < 2 ^ 32 }
     ensures value { IfOk result (λ printed. printed ≡ worth_in (Some par) bytes.now) }
     ensures worth { IfOk result (λ printed. IsWorth (Some par) bytes.now printed) }
 {
@@ -104,10 +104,11 @@ fn worth_of_one(alloc: Global, par: Par, bytes: &[u8]) -> Result<Worth, NoMemory
     }
 }
 
-/// A result's value, which is in canonical form, as it is printed: a text as its octets.
+/// A result's value, which is in canonical form, as it is printed: a text as its octets. It is read by the one reader
+/// of CDR, whose places are unsigned longs.
 pub fn worth_of(alloc: Global, gives: Option<Par>, value: &Bytes) -> Result<Worth, NoMemory>
     requires canonical { IsCanonical (one_of gives) value.now }
-    requires short { length value.now ≤ RESULT_LIMIT }
+    requires short { length value.now + 8 < 2 ^ 32 }
     ensures value { IfOk result (λ printed. printed ≡ worth_in gives value.now) }
     ensures worth { IfOk result (λ printed. IsWorth gives value.now printed) }
 {

@@ -7,15 +7,15 @@ use Rattle.fault_script.specs.declared.lines.LineFault.{LineFault}
 use Rattle.ft_report.specs.declared.outcomes.ReportOutcome.{ReportOutcome}
 use Rattle.ft_report.specs.declared.reports.ReportLine.{ReportLine}
 use Rattle.ft_report.specs.declared.reports.ReportLine.TheVariants as reports
-use Rattle.group_core.specs.Servant.{machine}
-use Rattle.group_core.specs.Group as plain
-use Rattle.group_core.specs.Group.{Group, serve}
+use Rattle.lone_group.specs.Servant.{machine}
+use Rattle.lone_group.specs.Group as plain
+use Rattle.lone_group.specs.Group.{Group, serve}
 use Rattle.ft_world.specs.Printed.{shown}
-use Rattle.group_core.specs.Kept.{IsCountedWithin}
+use Rattle.lone_group.specs.Kept.{IsCountedWithin}
 use Rattle.ft_world.specs.World.{Turn, World, arrives_of, calls_of, judged, served_by}
 use Rattle.ft_world.specs.Sound.{AnsweredAfter, Did, FailsAt, IsServedAt}
 use Rattle.ft_world.specs.declared.clients.Client.{Client}
-use Rattle.group_core.specs.declared.groups.Served.{Served}
+use Rattle.lone_group.specs.declared.groups.Served.{Served}
 use Rattle.ft_world.specs.declared.messages.Attempt.{Attempt}
 use Rattle.ft_world.specs.declared.messages.Message.TheVariants as messages
 use Rattle.ft_world.proofs.TurnLemmas.{calls_of-unless, did_after}

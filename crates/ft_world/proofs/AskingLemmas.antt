@@ -26,15 +26,15 @@ use Rattle.host_server.specs.Replies.{CanReply}
 use Rattle.ft_report.specs.declared.reports.ReportLine.{ReportLine}
 use Rattle.ft_report.specs.declared.reports.ReportLine.TheVariants as reports
 use Rattle.group_model.specs.declared.asking.Asked.{Asked}
-use Rattle.group_core.specs.declared.admissions.Admission.{Admission}
-use Rattle.group_core.specs.declared.admissions.Admission.TheVariants.{Expired, Same, Other, Full, New}
-use Rattle.group_core.specs.declared.groups.Served.{Served}
-use Rattle.group_core.specs.Asked.{IsShortBody, asked_by, asked_of, asked_version, first_version}
+use Rattle.lone_group.specs.declared.admissions.Admission.{Admission}
+use Rattle.lone_group.specs.declared.admissions.Admission.TheVariants.{Expired, Same, Other, Full, New}
+use Rattle.lone_group.specs.declared.groups.Served.{Served}
+use Rattle.lone_group.specs.Asked.{IsShortBody, asked_by, asked_of, asked_version, first_version}
 use Rattle.group_model.specs.Asking.{args_read}
-use Rattle.group_core.specs.Group as plain
-use Rattle.group_core.specs.Group.{Group, IsAnswer, admission, args_for, ask, decided, first_row, request_by, request_in, request_named, rows, serve, served_or, short_args, signature_asked, taken_args, unless_refused, with_operation}
-use Rattle.group_core.specs.Kept.{IsCountedWithin}
-use Rattle.group_core.specs.Servant.{machine}
+use Rattle.lone_group.specs.Group as plain
+use Rattle.lone_group.specs.Group.{Group, IsAnswer, admission, args_for, ask, decided, first_row, request_by, request_in, request_named, rows, serve, served_or, short_args, signature_asked, taken_args, unless_refused, with_operation}
+use Rattle.lone_group.specs.Kept.{IsCountedWithin}
+use Rattle.lone_group.specs.Servant.{machine}
 use Rattle.ft_world.specs.World.{World, placed}
 use Rattle.ft_world.specs.Links.{Linked, serving, asked_at, port_answer, reply_lines}
 use Rattle.ft_world.specs.Serving.{AskFailsAt, HasName, IsAskedAt, Serving}

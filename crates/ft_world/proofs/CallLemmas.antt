@@ -4,7 +4,7 @@ use Rattle.std.specs.Prelude.{is_some, slice_get}
 use Rattle.fault_script.specs.declared.lines.LineFault.{LineFault}
 use Rattle.fault_script.specs.declared.arguments.CallWords.{CallWords}
 use Rattle.ft_report.specs.declared.reports.ReportLine.{ReportLine}
-use Rattle.group_core.specs.Group.{Group}
+use Rattle.lone_group.specs.Group.{Group}
 use Rattle.ft_world.specs.World.{Placed, World, call_by, call_from, placed, started}
 use Rattle.ft_world.specs.Sound.{Answered, IsPlace}
 use Rattle.ft_world.specs.declared.clients.Client.{Client}

@@ -4,7 +4,7 @@ use Rattle.std.specs.Prelude.{not}
 use Rattle.fault_script.specs.declared.lines.LineFault.{LineFault}
 use Rattle.fault_script.specs.declared.lines.LineFault.TheVariants.{Unknown, NoMemory}
 use Rattle.ft_report.specs.declared.reports.ReportLine.{ReportLine}
-use Rattle.group_core.specs.Kept.{IsCountedWithin}
+use Rattle.lone_group.specs.Kept.{IsCountedWithin}
 use Rattle.ft_world.specs.World.{Turn, World, calls_of, cause, first_cause, is_there, judged, total_causes, totals_of, unless}
 use Rattle.ft_world.specs.Links.{Linked, end_lines, inject_line, link_of, linked_turn}
 use Rattle.ft_world.specs.Serving.{IsEnded, IsLinked}

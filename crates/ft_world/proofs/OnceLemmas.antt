@@ -8,7 +8,7 @@ use Rattle.fault_script.specs.declared.lines.Line.TheVariants as lines
 use Rattle.fault_script.specs.declared.lines.LineFault.{LineFault}
 use Rattle.ft_report.specs.declared.reports.ReportLine.{ReportLine}
 use Rattle.ft_report.specs.declared.reports.ReportLine.TheVariants as reports
-use Rattle.group_core.specs.Group.{Group, Served, ask, serve}
+use Rattle.lone_group.specs.Group.{Group, Served, ask, serve}
 use Rattle.ft_world.specs.World.{Placed, Turn, World, Goes, Refused, arrives_of, call_by, call_from, call_said, call_to, called, client_causes, delivered, ended, first_cause, group_causes, heard_by, hosts_causes, is_waiting_for, judged, made_group, message_numbered, new_group, placed, replied, show_found, total_causes, totals_of, unless, with_client, with_hosts}
 use Rattle.cdr_codec.specs.declared.orders.Order.{Order}
 use Rattle.giop_messages.specs.declared.messages.Message as giop
@@ -16,13 +16,13 @@ use Rattle.giop_messages.specs.declared.messages.Message.TheVariants as sent
 use Rattle.giop_messages.specs.declared.messages.RequestMsg.{RequestMsg}
 use Rattle.giop_stream.specs.Parts.{Received}
 use Rattle.group_model.specs.declared.asking.Asked.{Asked}
-use Rattle.group_core.specs.Asked.{asked_of}
+use Rattle.lone_group.specs.Asked.{asked_of}
 use Rattle.ft_world.specs.Acts.{act}
 use Rattle.ft_base.specs.declared.numbers.GroupId.{GroupId}
 use Rattle.iogr_reference.specs.Choices.{group_of_key}
 use Rattle.giop_stream.specs.Sessions.{session}
 use Rattle.ft_world.specs.Links.{Linked, group_by, group_keyed, inject_causes, link_of, linked_turn, message_turn, request_turn, served_all}
-use Rattle.group_core.specs.Once.{OpensOnce, ServesOnce, AsksOnce}
+use Rattle.lone_group.specs.Once.{OpensOnce, ServesOnce, AsksOnce}
 use Rattle.ft_world.specs.Once.{EachOnce, or_stay, world_after}
 use Rattle.ft_world.specs.declared.clients.Client.{Client}
 use Rattle.ft_world.specs.declared.messages.Attempt.{Attempt}

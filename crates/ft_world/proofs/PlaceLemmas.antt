@@ -4,7 +4,7 @@ use Rattle.std.proofs.Math.Seq.{drop-cons}
 use Rattle.std.proofs.lemmas.Option.{slice_get_read}
 use Rattle.std.specs.Prelude.{◌==◌, option_map, slice_get}
 use Rattle.std.proofs.lemmas.Bool.{ne_eqb}
-use Rattle.group_core.specs.Group.{Group}
+use Rattle.lone_group.specs.Group.{Group}
 use Rattle.ft_world.specs.World.{World, found, placed}
 use Rattle.ft_world.specs.Links.{group_numbered}
 use Rattle.ft_world.specs.Sound.{IsPlace}

@@ -13,7 +13,7 @@ use Rattle.giop_stream.specs.declared.sessions.StreamEnd.{StreamEnd}
 use Rattle.giop_stream.specs.Parts.{Received}
 use Rattle.giop_stream.specs.Sessions.{Serving as Stage, Serves, AreAll, Goes, Session, served_on, served_before, session}
 use Rattle.giop_stream.specs.Spelled.{IsSpelled}
-use Rattle.group_core.specs.Kept.{IsCountedWithin}
+use Rattle.lone_group.specs.Kept.{IsCountedWithin}
 use Rattle.ft_report.specs.declared.reports.ReportLine.{ReportLine}
 use Rattle.ft_world.specs.World.{World}
 use Rattle.ft_world.specs.Links.{Linked, serving, link_of, linked_on, message_turn, served_all, with_end}

@@ -26,8 +26,8 @@ use Rattle.host_server.specs.declared.answers.PortAnswer.{PortAnswer}
 use Rattle.host_server.specs.declared.answers.PortAnswer.TheVariants as port_answers
 use Rattle.host_server.specs.Replies.{reply_to, locate_reply_to}
 use Rattle.group_model.specs.declared.asking.Asked.{Asked}
-use Rattle.group_core.specs.Asked.{asked_of}
-use Rattle.group_core.specs.Group.{Group, Served, ask, signature_asked}
+use Rattle.lone_group.specs.Asked.{asked_of}
+use Rattle.lone_group.specs.Group.{Group, Served, ask, signature_asked}
 use Rattle.fault_script.specs.declared.lines.LineFault.TheVariants.{Unknown}
 use Rattle.ft_report.specs.declared.reports.ReportLine.{ReportLine}
 use Rattle.ft_report.specs.declared.reports.ReportLine.TheVariants as reports

@@ -3,7 +3,7 @@ use Rattle.std.specs.Prelude.{List, [], ◌∷◌}
 use Rattle.std.specs.List.{AllByRecursion}
 use Rattle.ft_base.specs.Journal.{AtMostOnce}
 use Rattle.fault_script.specs.declared.lines.Line.{Line}
-use Rattle.group_core.specs.Group.{Group}
+use Rattle.lone_group.specs.Group.{Group}
 use Rattle.ft_world.specs.World.{Turn, World, Goes, Refused}
 use Rattle.ft_world.specs.Acts.{act}
 

@@ -12,10 +12,10 @@ use Rattle.giop_messages.specs.declared.messages.Message.TheVariants as messages
 use Rattle.giop_messages.specs.declared.messages.RequestMsg.{RequestMsg}
 use Rattle.giop_stream.specs.declared.sessions.StreamEnd.{StreamEnd}
 use Rattle.group_model.specs.declared.asking.Asked.{Asked}
-use Rattle.group_core.specs.declared.groups.Served.{Served}
-use Rattle.group_core.specs.Asked.{IsShortBody}
-use Rattle.group_core.specs.Group.{Group, ask}
-use Rattle.group_core.specs.Kept.{IsCountedWithin, IsServed}
+use Rattle.lone_group.specs.declared.groups.Served.{Served}
+use Rattle.lone_group.specs.Asked.{IsShortBody}
+use Rattle.lone_group.specs.Group.{Group, ask}
+use Rattle.lone_group.specs.Kept.{IsCountedWithin, IsServed}
 use Rattle.ft_report.specs.declared.reports.ReportLine.{ReportLine}
 use Rattle.ft_world.specs.World.{World}
 use Rattle.ft_world.specs.Links.{Linked, serving, end_lines}

@@ -4,12 +4,12 @@ use Rattle.std.specs.List.{AllByRecursion}
 use Rattle.fault_script.specs.declared.lines.LineFault.{LineFault}
 use Rattle.fault_script.specs.declared.lines.LineFault.TheVariants as faults
 use Rattle.ft_report.specs.declared.reports.ReportLine.{ReportLine}
-use Rattle.group_core.specs.Servant.{machine}
-use Rattle.group_core.specs.Group.{Group, MayServe, serve}
-use Rattle.group_core.specs.Kept.{IsCountedWithin, IsServed}
+use Rattle.lone_group.specs.Servant.{machine}
+use Rattle.lone_group.specs.Group.{Group, MayServe, serve}
+use Rattle.lone_group.specs.Kept.{IsCountedWithin, IsServed}
 use Rattle.ft_world.specs.World.{Placed, Turn, World, Goes, Refused, calls_of}
 use Rattle.ft_base.specs.declared.requests.Request.{Request}
-use Rattle.group_core.specs.declared.groups.Served.{Served}
+use Rattle.lone_group.specs.declared.groups.Served.{Served}
 use Rattle.ft_world.specs.declared.clients.Client.{Client}
 use Rattle.ft_world.specs.declared.messages.Message.{Message}
 use Rattle.ft_world.specs.declared.messages.Message.TheVariants as messages

@@ -17,8 +17,8 @@ use Rattle.fault_script.specs.declared.arguments.CallWords.{CallWords}
 use Rattle.ft_report.specs.declared.reports.ReportLine.{ReportLine}
 use Rattle.ft_report.specs.declared.reports.ReportLine.TheVariants as reports
 use Rattle.ft_report.specs.declared.reports.Role.TheVariants.{Primary}
-use Rattle.group_core.specs.Servant.{machine, opening}
-use Rattle.group_core.specs.Group.{Group, Served, serve}
+use Rattle.lone_group.specs.Servant.{machine, opening}
+use Rattle.lone_group.specs.Group.{Group, Served, serve}
 use Rattle.ft_world.specs.Printed.{shown}
 use Rattle.ft_world.specs.declared.clients.Client.{Client}
 use Rattle.ft_world.specs.declared.limits.TheConstants.{CLIENT_LIMIT, DEFAULT_LIFE, ENTRY_LIMIT, GROUP_LIMIT, MESSAGE_LIMIT}

@@ -1,5 +1,5 @@
 ghost use Rattle.std.specs.Prelude.{◌≡◌, ℕ, ◌+◌, ◌<◌, ◌≤◌, ◌^◌, [], ◌∷◌, IfOk, OnOk, Some, slice_get};
-ghost use Rattle.group_core.specs.Group.{Group};
+ghost use Rattle.lone_group.specs.Group.{Group};
 ghost use Rattle.ft_world.specs.World.{World, client_line, group_line, hosts_line, show_line, shown_group, tick_line};
 ghost use Rattle.ft_world.specs.Acts.{act};
 ghost use Rattle.ft_world.specs.Sound.{Answered, Did};
@@ -10,7 +10,7 @@ use crate::worlds::World;
 use fault_script::{LimitName, Line, LineFault};
 use ft_base::{GroupId, HOST_LIMIT, HostNo, Members, Name, NoMemory, Steps, Version};
 use ft_report::{ReportLine, ReportLines, Role};
-use group_core::Group;
+use lone_group::Group;
 use std::alloc::Global;
 use std::sync::ledger::Ledger;
 

@@ -1,7 +1,7 @@
 ghost use Rattle.std.specs.Prelude.{◌≡◌, ℕ, ◌+◌, ◌<◌, ◌≤◌, ◌^◌, [], ◌∷◌, IfOk, OnOk, Some, length, slice_get};
 ghost use Rattle.ft_base.specs.declared.requests.Key.{Key};
-ghost use Rattle.group_core.specs.Servant.{machine};
-ghost use Rattle.group_core.specs.Group.{Group, MayServe};
+ghost use Rattle.lone_group.specs.Servant.{machine};
+ghost use Rattle.lone_group.specs.Group.{Group, MayServe};
 ghost use Rattle.ft_world.specs.World.{World, attempt_of, call_by, call_from, call_line, client_named, expiration_of, first_cause, key_of, numbered_after, placed, retention_of, started, total_causes, totals_of, version_of};
 ghost use Rattle.ft_world.specs.Sound.{Answered, HasSent};
 ghost use Rattle.ft_world.specs.declared.clients.Client.{Client};

@@ -1,7 +1,7 @@
 ghost use Rattle.std.specs.Prelude.{◌≡◌, ℕ, ◌+◌, ◌<◌, ◌≤◌, ◌^◌, ◌++◌, [], ◌∷◌, IfOk, OnOk, Some, length, slice_get};
 ghost use Rattle.ft_base.specs.declared.requests.Signature.{Signature};
-ghost use Rattle.group_core.specs.Servant.{machine};
-ghost use Rattle.group_core.specs.Group.{Group, IsAnswer};
+ghost use Rattle.lone_group.specs.Servant.{machine};
+ghost use Rattle.lone_group.specs.Group.{Group, IsAnswer};
 ghost use Rattle.ft_world.specs.Printed.{shown, shown_outcome};
 ghost use Rattle.ft_world.specs.World.{World, arrives_of, deliver_line, heard_by, is_waiting_for, judged};
 ghost use Rattle.ft_world.specs.Sound.{AnsweredAfter, Answered, Did, IsRouted};

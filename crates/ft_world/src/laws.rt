@@ -3,7 +3,7 @@ ghost use Rattle.fault_script.specs.declared.lines.Line.{Line};
 ghost use Rattle.ft_world.specs.Once.{EachOnce, world_after};
 ghost use Rattle.ft_world.specs.World.{empty};
 
-use group_core::requests_keep_once;
+use lone_group::requests_keep_once;
 
 /// At most once: in every world that lines of a script make, each keyed request of each group's
 /// journal was accepted before its expiration, and a client's retention id was accepted again only

@@ -1,6 +1,6 @@
 //! All groups of a script, their clients, and the messages in flight: what each line does to them,
 //! and what it prints. The world that the contracts speak of has one journal for each group, and what a
-//! request makes of a group is group_core's (specs/World.antt).
+//! request makes of a group is lone_group's (specs/World.antt).
 #![tactic(auto)]
 
 mod acts;

@@ -4,8 +4,8 @@ ghost use Rattle.std.specs.Prelude.{◌≡◌, ℕ, ◌+◌, ◌<◌, ◌++◌, 
 ghost use Rattle.ft_base.specs.declared.requests.Signature.{Signature};
 ghost use Rattle.giop_messages.specs.Writing.{written_message};
 ghost use Rattle.host_server.specs.Replies.{CanReply, locate_reply_to};
-ghost use Rattle.group_core.specs.Asked.{asked_of};
-ghost use Rattle.group_core.specs.Group.{Group, IsAnswer, signature_asked};
+ghost use Rattle.lone_group.specs.Asked.{asked_of};
+ghost use Rattle.lone_group.specs.Group.{Group, IsAnswer, signature_asked};
 ghost use Rattle.ft_world.specs.Printed.{gives_of};
 ghost use Rattle.ft_world.specs.World.{World, first_cause, judged, placed, total_causes, totals_of};
 ghost use Rattle.giop_stream.specs.Spelled.{IsSpelled};
@@ -23,9 +23,9 @@ use ft_base::{
 use ft_report::{ReportLine, ReportLines};
 use giop_messages::{Message, RequestMsg, Why, messages_are_within};
 use giop_stream::{Session, SessionStep, StreamEnd};
-use group_core::asked_of;
 use host_server::{PortAnswer, locate_reply_bytes, message_error_bytes, reply_bytes};
 use iogr_reference::{FIRST_PORT, Ior, Ports, group_of_key, ref_of};
+use lone_group::asked_of;
 use std::alloc::Global;
 use std::sync::ledger::Ledger;
 use sys_faults::Answer;

@@ -2,10 +2,10 @@ ghost use Rattle.std.specs.Prelude.{◌≡◌, ℕ, ◌+◌, All, ◌*◌, ◌<�
 ghost use Rattle.std.specs.List.{list_any};
 ghost use Rattle.std.specs.Option.{ForSome};
 ghost use Rattle.std.specs.Str.{bytes_eq};
-ghost use Rattle.group_core.specs.Servant.{machine};
-ghost use Rattle.group_core.specs.Asked.{IsShortBody};
-ghost use Rattle.group_core.specs.Group.{Group, IsAnswer, MayServe, ask, serve, signature_asked};
-ghost use Rattle.group_core.specs.Kept.{IsCountedWithin, IsServed};
+ghost use Rattle.lone_group.specs.Servant.{machine};
+ghost use Rattle.lone_group.specs.Asked.{IsShortBody};
+ghost use Rattle.lone_group.specs.Group.{Group, IsAnswer, MayServe, ask, serve, signature_asked};
+ghost use Rattle.lone_group.specs.Kept.{IsCountedWithin, IsServed};
 ghost use Rattle.ft_world.specs.World.{World, call_closed, call_opened, client_named, empty, found, group_named, is_named, is_there, message_numbered, new_client, new_group, totals_of};
 ghost use Rattle.ft_world.specs.Links.{group_numbered};
 ghost use Rattle.ft_world.specs.Serving.{AskFailsAt, IsAskedAt};
@@ -14,7 +14,7 @@ ghost use Rattle.ft_world.specs.Sound.{FailsAt, HasSent, IsServedAt, IsPlace, Is
 use crate::clients::Client;
 use crate::messages::Message;
 use ft_base::{HostNo, Name, NoMemory, Request, Steps, Tick};
-use group_core::{Asked, Group, Served};
+use lone_group::{Asked, Group, Served};
 use std::alloc::Global;
 use std::marker::Model;
 use std::sync::ledger::Ledger;

@@ -5,6 +5,7 @@ use Rattle.cdr_codec.specs.declared.orders.Order.TheVariants.{Big, Little}
 use Rattle.cdr_codec.specs.Reading.{fault_at}
 use Rattle.cdr_codec.specs.Formats.{read_each}
 use Rattle.ft_contexts.specs.declared.lists.Context.{Context}
+use Rattle.giop_messages.specs.declared.heads.TheConstants.{HEAD_LENGTH}
 use Rattle.giop_messages.specs.declared.faults.Why.TheVariants as causes
 use Rattle.giop_messages.specs.declared.messages.Message.{Message}
 use Rattle.giop_messages.specs.declared.messages.Message.TheVariants as messages
@@ -77,5 +78,5 @@ cut_off : message_in (71 ∷ 73 ∷ 79 ∷ 80 ∷ 1 ∷ 2 ∷ 0 ∷ 2 ∷ 0 ∷ 
 cut_off = refl
 
 -- a message that ends inside its request id
-too_short : message_in (71 ∷ 73 ∷ 79 ∷ 80 ∷ 1 ∷ 2 ∷ 0 ∷ 2 ∷ 0 ∷ 0 ∷ 0 ∷ 3 ∷ 0 ∷ 0 ∷ 0 ∷ []) ≡ Err (fault_at causes.Short 12)
+too_short : message_in (71 ∷ 73 ∷ 79 ∷ 80 ∷ 1 ∷ 2 ∷ 0 ∷ 2 ∷ 0 ∷ 0 ∷ 0 ∷ 3 ∷ 0 ∷ 0 ∷ 0 ∷ []) ≡ Err (fault_at causes.Short HEAD_LENGTH)
 too_short = refl

@@ -5,6 +5,7 @@ use Rattle.cdr_codec.specs.declared.orders.Order.{Order}
 use Rattle.cdr_codec.specs.Orders.{order_of}
 use Rattle.cdr_codec.specs.Formats.{Spelling, Format, SpellsNumber, SpellsPair, SpellsJudged, number, followed, lifted, in_order}
 use Rattle.cdr_codec.specs.Structs.{Fields, field, whole, struct}
+use Rattle.giop_messages.specs.declared.heads.TheConstants.{HEAD_LENGTH}
 use Rattle.giop_messages.specs.Faults.{up}
 use Rattle.giop_messages.specs.Heads.{octet, only, magic_byte, is_1_2, version, kind_of, kind, size_by, head_fields, head, if_flags_fit, header}
 
@@ -64,9 +65,9 @@ kind_long = judged_long octet.Spelled kind_of 7 1 (octet_long 7 refl)
 size_long : (flags : ℕ) → IsLong (size_by flags).Spelled 8 4
 size_long flags = ordered_long (order_of flags) (lifted up (number 4)) 8 4 (number_long 4 8 0 refl)
 
-head_long : IsLong head.Spelled 0 12
+head_long : IsLong head.Spelled 0 HEAD_LENGTH
 head_long =
-    struct_long head_fields 0 12 (
+    struct_long head_fields 0 HEAD_LENGTH (
       1,
       11,
       refl,
@@ -94,5 +95,5 @@ head_long =
     )
 
 -- a header at the front of a message
-pub header_long : IsLong header.Spelled 0 12
-header_long = judged_long head.Spelled if_flags_fit 0 12 head_long
+pub header_long : IsLong header.Spelled 0 HEAD_LENGTH
+header_long = judged_long head.Spelled if_flags_fit 0 HEAD_LENGTH head_long

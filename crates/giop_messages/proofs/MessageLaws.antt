@@ -11,6 +11,7 @@ use Rattle.cdr_codec.specs.Orders.{order_of}
 use Rattle.cdr_codec.specs.Calls.{FailsIn, Tells, OnFault, Refuses}
 use Rattle.cdr_codec.specs.Laws.{IsCodec}
 use Rattle.cdr_codec.proofs.Steps.{done, with_reader, bind_ok, bind_goes, ok_is, err_ok}
+use Rattle.giop_messages.specs.declared.heads.TheConstants.{HEAD_LENGTH}
 use Rattle.giop_messages.specs.declared.faults.Why.{Why}
 use Rattle.giop_messages.specs.declared.faults.Why.TheVariants as causes
 use Rattle.giop_messages.specs.declared.heads.Kind.{Kind}
@@ -36,45 +37,45 @@ record IsIn (kind : Kind) (order : Order) (m : Message) (payload : List ℕ) : T
   pub fields_spelled : SpellsPayload order m payload
 
 with_body_found : {X : Type 0} (f : Format Why X) → IsCodec causes.Short f → (order : Order) (payload : List ℕ) (x : X × Reader)
-    → f.read (reader_at order 12 payload) ≡ Ok x → SpellsWithBody f.Spelled order x.0 (body_at x.1) payload
+    → f.read (reader_at order HEAD_LENGTH payload) ≡ Ok x → SpellsWithBody f.Spelled order x.0 (body_at x.1) payload
 with_body_found f law order payload x e =
-    let t = law.found (reader_at order 12 payload) x e in
+    let t = law.found (reader_at order HEAD_LENGTH payload) x e in
     let order-is : x.1.order ≡ order = ap (λ (s : Reader). s.order) t.moved.at_end in
-    let place-is : x.1.place ≡ 12 + length t.bytes = ap (λ (s : Reader). s.place) t.moved.at_end in
+    let place-is : x.1.place ≡ HEAD_LENGTH + length t.bytes = ap (λ (s : Reader). s.place) t.moved.at_end in
     record {
       front = t.bytes;
       back = x.1.rest;
       is = t.moved.is;
       fields_spelled = t.spelled;
-      body_spelled = subst (λ (o : Order). SpellsBody o (12 + length t.bytes) (body_at x.1) x.1.rest) order-is
+      body_spelled = subst (λ (o : Order). SpellsBody o (HEAD_LENGTH + length t.bytes) (body_at x.1) x.1.rest) order-is
           (subst (λ (n : ℕ). SpellsBody x.1.order n (body_at x.1) x.1.rest) place-is (body_found x.1));
     }
 
 fields_found : {X : Type 0} (f : Format Why X) → IsCodec causes.Short f → (order : Order) (payload : List ℕ) (x : X × Reader)
-    → f.read (reader_at order 12 payload) ≡ Ok x → SpellsFields f.Spelled order x.0 payload
+    → f.read (reader_at order HEAD_LENGTH payload) ≡ Ok x → SpellsFields f.Spelled order x.0 payload
 fields_found f law order payload x e =
-    let t = law.found (reader_at order 12 payload) x e in
+    let t = law.found (reader_at order HEAD_LENGTH payload) x e in
     record { front = t.bytes; more = x.1.rest; is = t.moved.is; fields_spelled = t.spelled }
 
-payload_found : ReferenceCodecs → (kind : Kind) (order : Order) (payload : List ℕ) (m : Message) → payload_at kind (reader_at order 12 payload) ≡ Ok m → IsIn kind order m payload
+payload_found : ReferenceCodecs → (kind : Kind) (order : Order) (payload : List ℕ) (m : Message) → payload_at kind (reader_at order HEAD_LENGTH payload) ≡ Ok m → IsIn kind order m payload
 payload_found laws kinds.Request order payload m e =
-    let b = bind_ok (request_head.read (reader_at order 12 payload)) _ m e in
+    let b = bind_ok (request_head.read (reader_at order HEAD_LENGTH payload)) _ m e in
     subst (λ (m : Message). IsIn kinds.Request order m payload) (ok_is (messages.Request (request_from b.0.0 (body_at b.0.1))) m b.2)
     (record { kind_is = refl; fields_spelled = with_body_found request_head (request_head_codec laws) order payload b.0 b.1 })
 payload_found laws kinds.Reply order payload m e =
-    let b = bind_ok (reply_head.read (reader_at order 12 payload)) _ m e in
+    let b = bind_ok (reply_head.read (reader_at order HEAD_LENGTH payload)) _ m e in
     subst (λ (m : Message). IsIn kinds.Reply order m payload) (ok_is (messages.Reply (reply_from b.0.0 (body_at b.0.1))) m b.2)
     (record { kind_is = refl; fields_spelled = with_body_found reply_head reply_head_codec order payload b.0 b.1 })
 payload_found laws kinds.CancelRequest order payload m e =
-    let b = bind_ok (request_id.read (reader_at order 12 payload)) _ m e in
+    let b = bind_ok (request_id.read (reader_at order HEAD_LENGTH payload)) _ m e in
     subst (λ (m : Message). IsIn kinds.CancelRequest order m payload) (ok_is (messages.Cancel b.0.0) m b.2)
     (record { kind_is = refl; fields_spelled = fields_found request_id request_id_codec order payload b.0 b.1 })
 payload_found laws kinds.LocateRequest order payload m e =
-    let b = bind_ok (locate_request.read (reader_at order 12 payload)) _ m e in
+    let b = bind_ok (locate_request.read (reader_at order HEAD_LENGTH payload)) _ m e in
     subst (λ (m : Message). IsIn kinds.LocateRequest order m payload) (ok_is (messages.LocateRequest b.0.0.0 b.0.0.1) m b.2)
     (record { kind_is = refl; fields_spelled = fields_found locate_request (locate_request_codec laws) order payload b.0 b.1 })
 payload_found laws kinds.LocateReply order payload m e =
-    let b = bind_ok (locate_reply.read (reader_at order 12 payload)) _ m e in
+    let b = bind_ok (locate_reply.read (reader_at order HEAD_LENGTH payload)) _ m e in
     subst (λ (m : Message). IsIn kinds.LocateReply order m payload) (ok_is (messages.LocateReply b.0.0.0 b.0.0.1) m b.2)
     (record { kind_is = refl; fields_spelled = fields_found locate_reply locate_reply_codec order payload b.0 b.1 })
 payload_found laws kinds.CloseConnection order payload m e =
@@ -82,24 +83,24 @@ payload_found laws kinds.CloseConnection order payload m e =
 payload_found laws kinds.MessageError order payload m e =
     subst (λ (m : Message). IsIn kinds.MessageError order m payload) (ok_is messages.MessageError m e) (record { kind_is = refl; fields_spelled = tt })
 payload_found laws kinds.Fragment order payload m e =
-    let b = bind_ok (request_id.read (reader_at order 12 payload)) _ m e in
-    let t = request_id_codec.found (reader_at order 12 payload) b.0 b.1 in
+    let b = bind_ok (request_id.read (reader_at order HEAD_LENGTH payload)) _ m e in
+    let t = request_id_codec.found (reader_at order HEAD_LENGTH payload) b.0 b.1 in
     subst (λ (m : Message). IsIn kinds.Fragment order m payload) (ok_is (messages.Fragment b.0.0 b.0.1.rest) m b.2)
     (record { kind_is = refl; fields_spelled = record { front = t.bytes; is = t.moved.is; id_spelled = t.spelled } })
 
 fields_again : {X Y : Type 0} (f : Format Why X) → IsCodec causes.Short f → (order : Order) (x : X) (front more payload : List ℕ) (next : X × Reader → Result Y (Fault Why)) (y : Result Y (Fault Why))
-    → payload ≡ front ++ more → f.Spelled order 12 x front → next (x, reader_at order (12 + length front) more) ≡ y
-    → (f.read (reader_at order 12 payload) >>= next) ≡ y
+    → payload ≡ front ++ more → f.Spelled order HEAD_LENGTH x front → next (x, reader_at order (HEAD_LENGTH + length front) more) ≡ y
+    → (f.read (reader_at order HEAD_LENGTH payload) >>= next) ≡ y
 fields_again f law order x front more payload next y is spelled goes =
-    bind_goes (f.read (reader_at order 12 payload)) next _ _ (ap (λ (l : List ℕ). f.read (reader_at order 12 l)) is ∙ law.again order 12 x front more spelled) goes
+    bind_goes (f.read (reader_at order HEAD_LENGTH payload)) next _ _ (ap (λ (l : List ℕ). f.read (reader_at order HEAD_LENGTH l)) is ∙ law.again order HEAD_LENGTH x front more spelled) goes
 
-payload_again : ReferenceCodecs → (m : Message) (order : Order) (payload : List ℕ) → SpellsPayload order m payload → payload_at (kind_in m) (reader_at order 12 payload) ≡ Ok m
+payload_again : ReferenceCodecs → (m : Message) (order : Order) (payload : List ℕ) → SpellsPayload order m payload → payload_at (kind_in m) (reader_at order HEAD_LENGTH payload) ≡ Ok m
 payload_again laws (messages.Request r) order payload s =
     fields_again request_head (request_head_codec laws) order (head_of_request r) s.front s.back payload _ _ s.is s.fields_spelled
-    (ap (λ (body : Raw). done (messages.Request (request_from (head_of_request r) body))) (body_again order (12 + length s.front) r.body s.back s.body_spelled))
+    (ap (λ (body : Raw). done (messages.Request (request_from (head_of_request r) body))) (body_again order (HEAD_LENGTH + length s.front) r.body s.back s.body_spelled))
 payload_again laws (messages.Reply r) order payload s =
     fields_again reply_head reply_head_codec order (head_of_reply r) s.front s.back payload _ _ s.is s.fields_spelled
-    (ap (λ (body : Raw). done (messages.Reply (reply_from (head_of_reply r) body))) (body_again order (12 + length s.front) r.body s.back s.body_spelled))
+    (ap (λ (body : Raw). done (messages.Reply (reply_from (head_of_reply r) body))) (body_again order (HEAD_LENGTH + length s.front) r.body s.back s.body_spelled))
 payload_again laws (messages.Cancel id) order payload s = fields_again request_id request_id_codec order id s.front s.more payload _ _ s.is s.fields_spelled refl
 payload_again laws (messages.LocateRequest id key) order payload s = fields_again locate_request (locate_request_codec laws) order (id, key) s.front s.more payload _ _ s.is s.fields_spelled refl
 payload_again laws (messages.LocateReply id status) order payload s = fields_again locate_reply locate_reply_codec order (id, status) s.front s.more payload _ _ s.is s.fields_spelled refl
@@ -124,28 +125,28 @@ head_with flags kind size = record { flags = flags; kind = kind; size = size }
 
 -- what stands behind the header
 abbrev payload_reader : Head → List ℕ → Reader
-payload_reader h bytes = reader_at (order_of h.flags) 12 (take h.size (drop 12 bytes))
+payload_reader h bytes = reader_at (order_of h.flags) HEAD_LENGTH (take h.size (drop HEAD_LENGTH bytes))
 
 found_behind : ReferenceCodecs → (bytes front rest : List ℕ) (h : Head) (m : Message) (order : Order) → bytes ≡ front ++ rest → header.Spelled Big 0 h front
     → behind bytes h ≡ Ok (with_order m order) → Spells bytes order m
 found_behind laws bytes front rest h m order is spelled e =
     let twelve = header_long.long Big h front spelled in
-    let whole = unless_cut (ltb (length bytes) (12 + h.size)) (cut bytes) _ (with_order m order) e in
-    let enough : 12 + h.size ≤ length bytes = ltb-false _ _ whole.0 in
-    let payload = take h.size (drop 12 bytes) in
+    let whole = unless_cut (ltb (length bytes) (HEAD_LENGTH + h.size)) (cut bytes) _ (with_order m order) e in
+    let enough : HEAD_LENGTH + h.size ≤ length bytes = ltb-false _ _ whole.0 in
+    let payload = take h.size (drop HEAD_LENGTH bytes) in
     let b = bind_ok (payload_at h.kind (payload_reader h bytes)) (λ m. done (with_order m (order_of h.flags))) (with_order m order) whole.1 in
     let same = ok_is (with_order b.0 (order_of h.flags)) (with_order m order) b.2 in
     let i = subst (λ (m : Message). IsIn h.kind (order_of h.flags) m payload) (ap (λ (p : Message × Order). p.0) same) (payload_found laws h.kind (order_of h.flags) payload b.0 b.1) in
     let order-is : order ≡ order_of h.flags = sym (ap (λ (p : Message × Order). p.1) same) in
-    let sized : length payload ≡ h.size = length-take-le h.size (drop 12 bytes) (omega (arith, length-drop 12 bytes)) in
-    let left : drop 12 bytes ≡ rest = ap (drop 12) is ∙ drop_at front rest 12 twelve in
+    let sized : length payload ≡ h.size = length-take-le h.size (drop HEAD_LENGTH bytes) (omega (arith, length-drop HEAD_LENGTH bytes)) in
+    let left : drop HEAD_LENGTH bytes ≡ rest = ap (drop HEAD_LENGTH) is ∙ drop_at front rest HEAD_LENGTH twelve in
     record {
       flags = h.flags;
       front = front;
       payload = payload;
-      more = drop h.size (drop 12 bytes);
-      is = is ∙ ap (λ (l : List ℕ). front ++ l) (sym left ∙ sym (take-append-drop h.size (drop 12 bytes)))
-          ∙ sym (append_assoc front payload (drop h.size (drop 12 bytes)));
+      more = drop h.size (drop HEAD_LENGTH bytes);
+      is = is ∙ ap (λ (l : List ℕ). front ++ l) (sym left ∙ sym (take-append-drop h.size (drop HEAD_LENGTH bytes)))
+          ∙ sym (append_assoc front payload (drop h.size (drop HEAD_LENGTH bytes)));
       ordered = order-is;
       head_spelled = subst (λ (k : Kind). header.Spelled Big 0 (head_with h.flags k (length payload)) front) i.kind_is
           (subst (λ (n : ℕ). header.Spelled Big 0 (head_with h.flags h.kind n) front) (sym sized) spelled);
@@ -155,7 +156,7 @@ found_behind laws bytes front rest h m order is spelled e =
 -- what is read is spelled
 pub message_found : ReferenceCodecs → (bytes : List ℕ) (m : Message) (order : Order) → message_in bytes ≡ Ok (m, order) → Spells bytes order m
 message_found laws bytes m order e =
-    let whole = unless_cut (ltb (length bytes) 12) (cut bytes) _ (with_order m order) e in
+    let whole = unless_cut (ltb (length bytes) HEAD_LENGTH) (cut bytes) _ (with_order m order) e in
     let b = bind_ok (header.read (reader_at Big 0 bytes)) (λ h. behind bytes h.0) (with_order m order) whole.1 in
     let t = header_codec.found (reader_at Big 0 bytes) b.0 b.1 in
     found_behind laws bytes t.bytes b.0.1.rest b.0.0 m order t.moved.is t.spelled b.2
@@ -166,20 +167,20 @@ message_again laws bytes m order s =
     let h = head_with s.flags (kind_in m) (length s.payload) in
     let twelve = header_long.long Big h s.front s.head_spelled in
     let is : bytes ≡ s.front ++ (s.payload ++ s.more) = s.is ∙ append_assoc s.front s.payload s.more in
-    let len : length bytes ≡ 12 + length s.payload + length s.more = omega (arith, ap length is, length-append s.front (s.payload ++ s.more), length-append s.payload s.more) in
-    let payload-is : take (length s.payload) (drop 12 bytes) ≡ s.payload =
-    ap (λ (l : List ℕ). take (length s.payload) (drop 12 l)) is
-    ∙ ap (take (length s.payload)) (drop_at s.front (s.payload ++ s.more) 12 twelve)
+    let len : length bytes ≡ HEAD_LENGTH + length s.payload + length s.more = omega (arith, ap length is, length-append s.front (s.payload ++ s.more), length-append s.payload s.more) in
+    let payload-is : take (length s.payload) (drop HEAD_LENGTH bytes) ≡ s.payload =
+    ap (λ (l : List ℕ). take (length s.payload) (drop HEAD_LENGTH l)) is
+    ∙ ap (take (length s.payload)) (drop_at s.front (s.payload ++ s.more) HEAD_LENGTH twelve)
     ∙ take_at s.payload s.more (length s.payload) refl in
     let fields : payload_at (kind_in m) (payload_reader h bytes) ≡ Ok m =
-    ap (λ (l : List ℕ). payload_at (kind_in m) (reader_at (order_of s.flags) 12 l)) payload-is
+    ap (λ (l : List ℕ). payload_at (kind_in m) (reader_at (order_of s.flags) HEAD_LENGTH l)) payload-is
     ∙ payload_again laws m (order_of s.flags) s.payload (subst (λ (o : Order). SpellsPayload o m s.payload) s.ordered s.fields_spelled) in
     let behind-is : behind bytes h ≡ Ok (with_order m order) =
-    goes_on (ltb (length bytes) (12 + length s.payload)) (cut bytes) _ _ (le-ltb _ _ (omega arith))
+    goes_on (ltb (length bytes) (HEAD_LENGTH + length s.payload)) (cut bytes) _ _ (le-ltb _ _ (omega arith))
     (bind_goes (payload_at (kind_in m) (payload_reader h bytes)) (λ m. done (with_order m (order_of s.flags))) _ _ fields (ap (λ (o : Order). done (with_order m o)) (sym s.ordered))) in
     let read : header.read (reader_at Big 0 bytes) ≡ Ok (h, reader_at Big (0 + length s.front) (s.payload ++ s.more)) =
     ap (λ (l : List ℕ). header.read (reader_at Big 0 l)) is ∙ header_codec.again Big 0 h s.front (s.payload ++ s.more) s.head_spelled in
-    goes_on (ltb (length bytes) 12) (cut bytes) _ _ (le-ltb _ _ (omega arith))
+    goes_on (ltb (length bytes) HEAD_LENGTH) (cut bytes) _ _ (le-ltb _ _ (omega arith))
     (bind_goes (header.read (reader_at Big 0 bytes)) (λ h. behind bytes h.0) _ _ read behind-is)
 
 -- bytes spell one message at most
@@ -212,18 +213,18 @@ header_read r h after e fit = bind_goes (head.read r) (λ x. judge (if_flags_fit
     (fits (flags_fit h) h after (fault_at causes.Flags (r.place + 6)) fit)
 
 -- a message is its header and the fields behind it
-pub fields_behind : (bytes payload : List ℕ) (h : Head) → head_in bytes ≡ Ok h → flags_fit h ≡ true → drop 12 bytes ≡ payload → h.size ≡ length payload
-    → 12 ≤ length bytes → message_in bytes ≡ fields_in h payload
+pub fields_behind : (bytes payload : List ℕ) (h : Head) → head_in bytes ≡ Ok h → flags_fit h ≡ true → drop HEAD_LENGTH bytes ≡ payload → h.size ≡ length payload
+    → HEAD_LENGTH ≤ length bytes → message_in bytes ≡ fields_in h payload
 fields_behind bytes payload h e fit left sized long =
     let b = bind_ok (head.read (reader_at Big 0 bytes)) (λ h. done h.0) h e in
     let head-is : head.read (reader_at Big 0 bytes) ≡ Ok (h, b.0.1) =
     b.1 ∙ ap (λ (x : Head). done (with_reader x b.0.1)) (ok_is b.0.0 h b.2) in
     let read = header_read (reader_at Big 0 bytes) h b.0.1 head-is fit in
-    let whole : length bytes ≡ 12 + h.size = omega (arith, length-drop 12 bytes, ap length left, sized, long) in
-    let payload-is : take h.size (drop 12 bytes) ≡ payload = ap (take h.size) left ∙ ap (λ (n : ℕ). take n payload) sized ∙ take-length payload in
-    goes_on (ltb (length bytes) 12) (cut bytes) _ _ (le-ltb _ _ long)
+    let whole : length bytes ≡ HEAD_LENGTH + h.size = omega (arith, length-drop HEAD_LENGTH bytes, ap length left, sized, long) in
+    let payload-is : take h.size (drop HEAD_LENGTH bytes) ≡ payload = ap (take h.size) left ∙ ap (λ (n : ℕ). take n payload) sized ∙ take-length payload in
+    goes_on (ltb (length bytes) HEAD_LENGTH) (cut bytes) _ _ (le-ltb _ _ long)
     (bind_goes (header.read (reader_at Big 0 bytes)) (λ h. behind bytes h.0) _ _ read
-    (goes_on (ltb (length bytes) (12 + h.size)) (cut bytes) _ _ (le-ltb _ _ (omega (arith, whole))) (ap (fields_in h) payload-is)))
+    (goes_on (ltb (length bytes) (HEAD_LENGTH + h.size)) (cut bytes) _ _ (le-ltb _ _ (omega (arith, whole))) (ap (fields_in h) payload-is)))
 
 -- ---- a call's answers
 

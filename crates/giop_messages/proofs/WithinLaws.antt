@@ -6,6 +6,7 @@ use Rattle.cdr_codec.specs.declared.bodies.Raw.{Raw}
 use Rattle.cdr_codec.specs.Formats.{Spelling, SpellsEach}
 use Rattle.ft_contexts.specs.declared.lists.Context.{Context}
 use Rattle.ft_contexts.specs.Lists.{context}
+use Rattle.giop_messages.specs.declared.heads.TheConstants.{HEAD_LENGTH}
 use Rattle.giop_messages.specs.declared.messages.Message.{Message}
 use Rattle.giop_messages.specs.declared.messages.Message.TheVariants as messages
 use Rattle.giop_messages.specs.declared.requests.RequestHead.{RequestHead}
@@ -74,20 +75,20 @@ body_within : (order : Order) (place : ℕ) (body : Raw) (bytes : List ℕ) (cou
 body_within order place body bytes count h s = record { aligned = s.aligned; short = behind_within bytes s.pad body.bytes count h s.is }
 
 with_body_within : {X : Type 0} (fields : Spelling X) (order : Order) (x : X) (list : List Context) (body : Raw) (payload : List ℕ) (count : ℕ) → length payload ≤ count
-    → ((front : List ℕ) → length front ≤ count → fields order 12 x front → AreWithin count list) → SpellsWithBody fields order x body payload
+    → ((front : List ℕ) → length front ≤ count → fields order HEAD_LENGTH x front → AreWithin count list) → SpellsWithBody fields order x body payload
     → ArePartsWithin count list body
 with_body_within fields order x list body payload count h lists s = record {
   contexts = lists s.front (front_within payload s.front s.back count h s.is) s.fields_spelled;
-  body = body_within order (12 + length s.front) body s.back count (behind_within payload s.front s.back count h s.is) s.body_spelled;
+  body = body_within order (HEAD_LENGTH + length s.front) body s.back count (behind_within payload s.front s.back count h s.is) s.body_spelled;
 }
 
 payload_within : (order : Order) (m : Message) (payload : List ℕ) (count : ℕ) → length payload ≤ count → SpellsPayload order m payload → IsWithin count m
 payload_within order (messages.Request r) payload count h s =
     with_body_within request_head.Spelled order (head_of_request r) r.contexts r.body payload count h
-    (λ front few spelled. request_within order 12 (head_of_request r) front count few spelled) s
+    (λ front few spelled. request_within order HEAD_LENGTH (head_of_request r) front count few spelled) s
 payload_within order (messages.Reply r) payload count h s =
     with_body_within reply_head.Spelled order (head_of_reply r) r.contexts r.body payload count h
-    (λ front few spelled. reply_within order 12 (head_of_reply r) front count few spelled) s
+    (λ front few spelled. reply_within order HEAD_LENGTH (head_of_reply r) front count few spelled) s
 payload_within order (messages.Cancel id) payload count h s = tt
 payload_within order (messages.LocateRequest id key) payload count h s = tt
 payload_within order (messages.LocateReply id status) payload count h s = tt

@@ -12,6 +12,7 @@ use Rattle.cdr_codec.specs.Laws.{IsCodec}
 use Rattle.cdr_codec.proofs.ValueLaws.{text_valid}
 use Rattle.ft_contexts.specs.declared.lists.Context.{Context}
 use Rattle.ft_contexts.specs.Lists.{context}
+use Rattle.giop_messages.specs.declared.heads.TheConstants.{HEAD_LENGTH}
 use Rattle.giop_messages.specs.declared.faults.Why.{Why}
 use Rattle.giop_messages.specs.declared.faults.Why.TheVariants as causes
 use Rattle.giop_messages.specs.declared.heads.Kind.{Kind}
@@ -128,24 +129,24 @@ sign_means Little = refl
 
 -- ---- the fields
 
-fields_written : {X : Type 0} (f : Format Why X) → IsCodec causes.Short f → (order : Order) (x : X) → f.Valid x → SpellsFields f.Spelled order x (f.written order 12 x)
+fields_written : {X : Type 0} (f : Format Why X) → IsCodec causes.Short f → (order : Order) (x : X) → f.Valid x → SpellsFields f.Spelled order x (f.written order HEAD_LENGTH x)
 fields_written f law order x h = record {
-  front = f.written order 12 x;
+  front = f.written order HEAD_LENGTH x;
   more = [];
-  is = sym (append-nil (f.written order 12 x));
-  fields_spelled = law.spells order 12 x h;
+  is = sym (append-nil (f.written order HEAD_LENGTH x));
+  fields_spelled = law.spells order HEAD_LENGTH x h;
 }
 
 with_body_written : {X : Type 0} (f : Format Why X) → IsCodec causes.Short f → (order : Order) (x : X) (body : Raw) → f.Valid x → IsBodyFor order body
-    → SpellsWithBody f.Spelled order x body (with_body (f.written order 12 x) body)
+    → SpellsWithBody f.Spelled order x body (with_body HEAD_LENGTH (f.written order HEAD_LENGTH x) body)
 with_body_written f law order x body h b =
-    let front = f.written order 12 x in
+    let front = f.written order HEAD_LENGTH x in
     record {
       front = front;
-      back = padded_body (12 + length front) body.bytes;
+      back = padded_body (HEAD_LENGTH + length front) body.bytes;
       is = refl;
-      fields_spelled = law.spells order 12 x h;
-      body_spelled = body_spells order (12 + length front) body b.ordered b.aligned;
+      fields_spelled = law.spells order HEAD_LENGTH x h;
+      body_spelled = body_spells order (HEAD_LENGTH + length front) body b.ordered b.aligned;
     }
 
 payload_spells : ReferenceCodecs → (m : Message) (order : Order) → IsNumbered m → HasFields order m → SpellsPayload order m (written_payload order m)
@@ -160,9 +161,9 @@ payload_spells laws (messages.LocateReply id status) order n h =
 payload_spells laws messages.CloseConnection order n h = tt
 payload_spells laws messages.MessageError order n h = tt
 payload_spells laws (messages.Fragment id rest) order n h = record {
-  front = request_id.written order 12 id;
+  front = request_id.written order HEAD_LENGTH id;
   is = refl;
-  id_spelled = request_id_codec.spells order 12 id n;
+  id_spelled = request_id_codec.spells order HEAD_LENGTH id n;
 }
 
 -- ---- the whole message

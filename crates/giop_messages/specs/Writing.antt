@@ -1,5 +1,5 @@
 -- The one spelling of a message with padding of zeros and reserved octets of 0.
-use Rattle.std.specs.Prelude.{◌≡◌, ◌≤◌, ◌<◌, ◌^◌, ◌==◌, ℕ, ◌+◌, List, [], ◌∷◌, ◌++◌, length, replicate, Some, None}
+use Rattle.std.specs.Prelude.{◌≡◌, ◌≤◌, ◌<◌, ◌^◌, ◌==◌, ℕ, ◌+◌, ◌-◌, List, [], ◌∷◌, ◌++◌, length, take, drop, replicate, Some, None}
 use Rattle.std.specs.List.{All, find}
 use Rattle.ft_base.specs.Canonical.{padding}
 use Rattle.ft_base.specs.Text.{zero_place}
@@ -7,8 +7,11 @@ use Rattle.cdr_codec.specs.declared.orders.Order.{Order}
 use Rattle.cdr_codec.specs.declared.orders.Order.TheVariants.{Big}
 use Rattle.cdr_codec.specs.declared.bodies.Raw.{Raw}
 use Rattle.cdr_codec.specs.Orders.{order_sign}
+use Rattle.cdr_codec.specs.Calls.{Writer}
+use Rattle.cdr_codec.specs.Formats.{Writing}
+use Rattle.cdr_codec.specs.Reading.{digits_in}
 use Rattle.ft_contexts.specs.declared.lists.Context.{Context}
-use Rattle.giop_messages.specs.declared.heads.TheConstants.{HEAD_LENGTH, MESSAGE_LIMIT}
+use Rattle.giop_messages.specs.declared.heads.TheConstants.{HEAD_LENGTH, MESSAGE_LIMIT, SIZE_PLACE}
 use Rattle.giop_messages.specs.declared.heads.Head.{Head}
 use Rattle.giop_messages.specs.declared.heads.Kind.{Kind}
 use Rattle.giop_messages.specs.declared.messages.Message.{Message}
@@ -24,18 +27,25 @@ abbrev pub padded_body : ℕ → List ℕ → List ℕ
 padded_body place [] = []
 padded_body place (b ∷ bs) = replicate (padding place 8) 0 ++ b ∷ bs
 
-abbrev pub with_body : List ℕ → Raw → List ℕ
-with_body front body = front ++ padded_body (HEAD_LENGTH + length front) body.bytes
+abbrev pub written_body : Writing (List ℕ)
+written_body order place body = padded_body place body
+
+abbrev pub with_body : ℕ → List ℕ → Raw → List ℕ
+with_body place front body = front ++ padded_body (place + length front) body.bytes
+
+-- what stands behind the header, from this place on
+abbrev pub written_fields : Writing Message
+written_fields order place (messages.Request r) = with_body place (request_head.written order place (head_of_request r)) r.body
+written_fields order place (messages.Reply r) = with_body place (reply_head.written order place (head_of_reply r)) r.body
+written_fields order place (messages.Cancel id) = request_id.written order place id
+written_fields order place (messages.LocateRequest id key) = locate_request.written order place (id, key)
+written_fields order place (messages.LocateReply id status) = locate_reply.written order place (id, status)
+written_fields order place messages.CloseConnection = []
+written_fields order place messages.MessageError = []
+written_fields order place (messages.Fragment id rest) = request_id.written order place id ++ rest
 
 abbrev pub written_payload : Order → Message → List ℕ
-written_payload order (messages.Request r) = with_body (request_head.written order HEAD_LENGTH (head_of_request r)) r.body
-written_payload order (messages.Reply r) = with_body (reply_head.written order HEAD_LENGTH (head_of_reply r)) r.body
-written_payload order (messages.Cancel id) = request_id.written order HEAD_LENGTH id
-written_payload order (messages.LocateRequest id key) = locate_request.written order HEAD_LENGTH (id, key)
-written_payload order (messages.LocateReply id status) = locate_reply.written order HEAD_LENGTH (id, status)
-written_payload order messages.CloseConnection = []
-written_payload order messages.MessageError = []
-written_payload order (messages.Fragment id rest) = request_id.written order HEAD_LENGTH id ++ rest
+written_payload order message = written_fields order HEAD_LENGTH message
 
 -- the header of a message that is whole
 abbrev pub whole_head : Order → Kind → ℕ → Head
@@ -47,6 +57,14 @@ headed_by order kind payload = header.written Big 0 (whole_head order kind (leng
 
 abbrev pub written_message : Message → Order → List ℕ
 written_message message order = headed_by order (kind_in message) (written_payload order message)
+
+-- a writer behind a header that has no size yet
+abbrev pub begun_message : Order → Kind → Writer
+begun_message order kind = record { order = order; place = 0; text = header.written Big 0 (whole_head order kind 0) }
+
+-- the same bytes, with the size of what stands behind the header
+abbrev pub with_size : Order → List ℕ → List ℕ
+with_size order text = take SIZE_PLACE text ++ (digits_in order 4 (length text - HEAD_LENGTH) ++ drop HEAD_LENGTH text)
 
 -- ---- what can be written
 

@@ -1,18 +1,21 @@
 //! The twelve bytes with which each message begins. (GIOP chapter, "GIOP Message Header".)
-ghost use Rattle.std.specs.Prelude.{◌≡◌, ◌≤◌, ◌<◌, ◌+◌, ◌^◌, [], length, IfOk};
-ghost use Rattle.cdr_codec.specs.declared.orders.Order.TheVariants.{Big};
-ghost use Rattle.cdr_codec.specs.Orders.{order_sign, order_of};
+ghost use Rattle.std.specs.Prelude.{◌≡◌, ◌≤◌, ◌<◌, ◌+◌, ◌^◌, length, IfOk};
+ghost use Rattle.cdr_codec.specs.Orders.{order_of};
 ghost use Rattle.cdr_codec.specs.Calls.{Gives};
 ghost use Rattle.giop_messages.specs.Faults.{wrong_of, IsJudged};
 ghost use Rattle.giop_messages.specs.Heads.{octet, magic_byte, version, kind, kind_of, kind_sign, more_in, size_by, head, header, has_parts, flags_fit, head_in};
+ghost use Rattle.giop_messages.specs.Writing.{begun_message, with_size};
 
 use crate::faults::{Malformed, Why};
-use cdr_codec::{CdrReader, CdrWriter, Order};
-use ft_base::NoMemory;
+use cdr_codec::{CdrReader, CdrWriter, Order, digits_of_u32};
+use ft_base::{Bytes, NoMemory};
 use std::alloc::Global;
 
 /// The number of bytes of a header.
 pub const HEAD_LENGTH: usize = 12;
+
+/// The place of the size in a header.
+const SIZE_PLACE: usize = 8;
 
 /// The most bytes of a message with its header, also of one that came in parts: 1 MiB.
 pub const MESSAGE_LIMIT: usize = 1048576;
@@ -213,20 +216,56 @@ pub fn read_head(bytes: &[u8]) -> Result<Head, Malformed>
     read_fields(&mut reader)
 }
 
-/// A writer behind the header of a message that is whole, with room for what the size says.
-#[tactic(auto, using(crate::proofs::WritingSteps::header_written))]
+/// A writer behind the header of a message that is whole, with room for so many bytes more. The header's size is 0
+/// until `with_size` writes it.
+#[tactic(auto, using(crate::proofs::WritingSteps::header_begun))]
 pub fn begin_message(
     alloc: Global,
     kind: Kind,
-    size: u32,
     order: Order,
+    room: usize,
 ) -> Result<CdrWriter, NoMemory>
-    ensures { IfOk result (λ writer. writer ≡ record { order = order; place = 0; text = header.written Big 0 (record { flags = order_sign order; kind = kind; size = size }) }) }
+    requires { room < 2 ^ 39 }
+    ensures { IfOk result (λ writer. writer ≡ begun_message order kind) }
 {
     let mut writer = CdrWriter::new(alloc, order, 0);
-    writer.reserve(HEAD_LENGTH + size as usize)?;
-    let front = [b'G', b'I', b'O', b'P', 1, 2, order.sign(), kind.number()];
+    writer.reserve(HEAD_LENGTH + room)?;
+    let order = order.sign();
+    let front = [
+        b'G',
+        b'I',
+        b'O',
+        b'P',
+        1,
+        2,
+        order,
+        kind.number(),
+        0,
+        0,
+        0,
+        0,
+    ];
     writer.write_piece(1, front.as_slice())?;
-    writer.write_u32(size)?;
     Ok(writer)
+}
+
+fn put_size(text: &mut [u8], order: Order)
+    requires long { HEAD_LENGTH ≤ length text.old }
+    requires short { length text.old < 2 ^ 32 }
+    ensures { text.new ≡ with_size order text.old }
+{
+    let digits = digits_of_u32(order, (text.len() - HEAD_LENGTH) as u32);
+    text[SIZE_PLACE..HEAD_LENGTH].copy_from_slice(&digits);
+}
+
+/// What a writer wrote behind a header, with the size that this makes in the header. It takes no memory.
+pub fn with_size(writer: CdrWriter) -> Bytes
+    requires long { HEAD_LENGTH ≤ length writer.text }
+    requires short { length writer.text < 2 ^ 32 }
+    ensures { result ≡ with_size writer.order writer.text }
+{
+    let order = writer.order();
+    let mut text = writer.finish().into_vec();
+    put_size(text.as_mut_slice(), order);
+    Bytes::from_vec(text)
 }

@@ -1,10 +1,13 @@
-ghost use Rattle.std.specs.Prelude.{◌≡◌, ◌<◌, ◌+◌, ◌^◌, ◌++◌, [], length, IfOk, Ok};
+//! Messages as bytes: a header, and behind it the fields and the body, in one text. The header's size is written last.
+ghost use Rattle.std.specs.Prelude.{◌≡◌, ◌<◌, ◌^◌, length, IfOk, OnOk, Ok};
+ghost use Rattle.cdr_codec.specs.Calls.{appended};
 ghost use Rattle.giop_messages.specs.declared.messages.Message.TheVariants as messages;
 ghost use Rattle.giop_messages.specs.Messages.{Spells, message_in};
-ghost use Rattle.giop_messages.specs.Writing.{Writable, IsNumbered, IsNumberedRequest, IsNumberedReply, headed_by, padded_body, written_message};
+ghost use Rattle.giop_messages.specs.Writing.{Writable, HasFields, IsRequest, IsReply, IsAmong, IsNumbered, IsNumberedRequest, IsNumberedReply, written_body, written_fields, written_message};
+ghost use Rattle.giop_messages.specs.Fields.{locate_statuses};
 
 use crate::addresses::write_address;
-use crate::heads::{HEAD_LENGTH, Kind, begin_message};
+use crate::heads::{begin_message, with_size};
 use crate::messages::{Message, ReplyMsg, RequestMsg};
 use crate::replies::write_reply_head;
 use crate::requests::write_request_head;
@@ -16,133 +19,115 @@ use std::alloc::Global;
 /// Room for the numbers, counts and paddings among the fields of a message without contexts.
 const FIELDS_ROOM: usize = 40;
 
-/// A writer of what stands behind the header, with room for so many bytes.
-fn begin_fields(alloc: Global, order: Order, room: usize) -> Result<CdrWriter, NoMemory>
-    requires { room < 2 ^ 40 }
-    ensures { IfOk result (λ writer. writer ≡ record { order = order; place = HEAD_LENGTH; text = [] }) }
-{
-    let mut writer = CdrWriter::new(alloc, order, HEAD_LENGTH as u32);
-    writer.reserve(room)?;
-    Ok(writer)
-}
-
-/// A header, and as many bytes as it says.
-#[tactic(auto, using(crate::proofs::WritingSteps::payload_written))]
-fn whole(alloc: Global, kind: Kind, order: Order, payload: &[u8]) -> Result<Bytes, NoMemory>
-    requires { length payload.now < 2 ^ 32 }
-    ensures { IfOk result (λ bytes. bytes ≡ headed_by order kind payload.now) }
-{
-    let mut writer = begin_message(alloc, kind, payload.len() as u32, order)?;
-    writer.write_piece(1, payload)?;
-    Ok(writer.finish())
-}
-
-/// A message of these fields and a body.
+/// A body behind the fields. Before an empty one there is no padding.
 #[tactic(auto, using(crate::proofs::WritingSteps::body_written, crate::proofs::WritingSteps::no_body))]
-fn with_body(
-    alloc: Global,
-    kind: Kind,
-    order: Order,
-    fields: &[u8],
-    body: &[u8],
-) -> Result<Bytes, NoMemory>
-    requires { length (fields.now ++ padded_body (HEAD_LENGTH + length fields.now) body.now) < 2 ^ 32 }
-    ensures { IfOk result (λ bytes. bytes ≡ headed_by order kind (fields.now ++ padded_body (HEAD_LENGTH + length fields.now) body.now)) }
+fn write_body(body: &[u8], writer: &mut CdrWriter) -> Result<(), NoMemory>
+    requires { length body.now < 2 ^ 32 }
+    ensures { OnOk result (writer.new ≡ appended written_body body.now writer.old) }
 {
     if body.is_empty() {
-        return whole(alloc, kind, order, fields);
+        return Ok(());
     }
-    let front = HEAD_LENGTH + fields.len();
-    let size = fields.len() + (8 - front % 8) % 8 + body.len();
-    let mut writer = begin_message(alloc, kind, size as u32, order)?;
-    writer.write_piece(1, fields)?;
     writer.write_piece(8, body)?;
-    Ok(writer.finish())
+    Ok(())
 }
 
-fn request_room(request: &RequestMsg) -> usize
-    requires key { length request.now.key < 2 ^ 32 }
-    requires op { length request.now.op < 2 ^ 32 }
-    ensures { result < 2 ^ 40 }
+#[tactic(auto, using(crate::proofs::WritingSteps::request_written))]
+fn write_request(request: &RequestMsg, writer: &mut CdrWriter) -> Result<(), NoMemory>
+    requires { IsRequest writer.now.order request.now }
+    ensures written { OnOk result (writer.new ≡ appended written_fields (messages.Request request.now) writer.old) }
+    ensures numbered { OnOk result (IsNumberedRequest request.now) }
 {
-    FIELDS_ROOM + request.key.bytes().len() + request.op.bytes().len()
+    write_request_head(request, writer)?;
+    write_body(request.body.bytes.bytes(), writer)?;
+    Ok(())
 }
 
-#[tactic(auto, using(crate::proofs::WritingSteps::payload_short))]
-fn write_request(alloc: Global, request: &RequestMsg, order: Order) -> Result<Bytes, NoMemory>
-    requires { Writable (messages.Request request.now) order }
-    ensures written { IfOk result (λ bytes. bytes ≡ written_message (messages.Request request.now) order) }
-    ensures numbered { IfOk result (λ bytes. IsNumberedRequest request.now) }
+#[tactic(auto, using(crate::proofs::WritingSteps::reply_written))]
+fn write_reply(reply: &ReplyMsg, writer: &mut CdrWriter) -> Result<(), NoMemory>
+    requires { IsReply writer.now.order reply.now }
+    ensures written { OnOk result (writer.new ≡ appended written_fields (messages.Reply reply.now) writer.old) }
+    ensures numbered { OnOk result (IsNumberedReply reply.now) }
 {
-    let mut fields = begin_fields(alloc, order, request_room(request))?;
-    write_request_head(request, &mut fields)?;
-    with_body(
-        alloc,
-        Kind::Request,
-        order,
-        fields.bytes(),
-        request.body.bytes.bytes(),
-    )
+    write_reply_head(reply, writer)?;
+    write_body(reply.body.bytes.bytes(), writer)?;
+    Ok(())
 }
 
-#[tactic(auto, using(crate::proofs::WritingSteps::payload_short))]
-fn write_reply(alloc: Global, reply: &ReplyMsg, order: Order) -> Result<Bytes, NoMemory>
-    requires { Writable (messages.Reply reply.now) order }
-    ensures written { IfOk result (λ bytes. bytes ≡ written_message (messages.Reply reply.now) order) }
-    ensures numbered { IfOk result (λ bytes. IsNumberedReply reply.now) }
+#[tactic(auto, using(crate::proofs::WritingSteps::locate_request_written))]
+fn write_locate_request(id: u32, key: &[u8], writer: &mut CdrWriter) -> Result<(), NoMemory>
+    requires { length key.now < 2 ^ 32 }
+    ensures { OnOk result (writer.new ≡ appended written_fields (messages.LocateRequest id key.now) writer.old) }
 {
-    let mut fields = begin_fields(alloc, order, FIELDS_ROOM)?;
-    write_reply_head(reply, &mut fields)?;
-    with_body(
-        alloc,
-        Kind::Reply,
-        order,
-        fields.bytes(),
-        reply.body.bytes.bytes(),
-    )
+    writer.write_u32(id)?;
+    write_address(key, writer)?;
+    Ok(())
 }
 
-#[tactic(auto, using(crate::proofs::WritingSteps::payload_short))]
-fn write_cancel(alloc: Global, id: u32, order: Order) -> Result<Bytes, NoMemory>
-    requires { Writable (messages.Cancel id) order }
-    ensures { IfOk result (λ bytes. bytes ≡ written_message (messages.Cancel id) order) }
+#[tactic(auto, using(crate::proofs::WritingSteps::locate_reply_written))]
+fn write_locate_reply(id: u32, status: u32, writer: &mut CdrWriter) -> Result<(), NoMemory>
+    requires { IsAmong locate_statuses status }
+    ensures { OnOk result (writer.new ≡ appended written_fields (messages.LocateReply id status) writer.old) }
 {
-    let mut fields = begin_fields(alloc, order, FIELDS_ROOM)?;
-    fields.write_u32(id)?;
-    whole(alloc, Kind::CancelRequest, order, fields.bytes())
+    writer.write_u32(id)?;
+    writer.write_u32(status)?;
+    Ok(())
 }
 
-#[tactic(auto, using(crate::proofs::WritingSteps::payload_short, crate::proofs::WritingSteps::locate_request_written))]
-fn write_locate_request(alloc: Global, id: u32, key: &[u8], order: Order) -> Result<Bytes, NoMemory>
-    requires { Writable (messages.LocateRequest id key.now) order }
-    ensures { IfOk result (λ bytes. bytes ≡ written_message (messages.LocateRequest id key.now) order) }
+#[tactic(auto, using(crate::proofs::WritingSteps::fragment_written))]
+fn write_fragment(id: u32, rest: &[u8], writer: &mut CdrWriter) -> Result<(), NoMemory>
+    requires { length rest.now < 2 ^ 32 }
+    ensures { OnOk result (writer.new ≡ appended written_fields (messages.Fragment id rest.now) writer.old) }
 {
-    let mut fields = begin_fields(alloc, order, FIELDS_ROOM)?;
-    fields.write_u32(id)?;
-    write_address(key, &mut fields)?;
-    whole(alloc, Kind::LocateRequest, order, fields.bytes())
+    writer.write_u32(id)?;
+    writer.write_piece(1, rest)?;
+    Ok(())
 }
 
-#[tactic(auto, using(crate::proofs::WritingSteps::payload_short, crate::proofs::WritingSteps::locate_reply_written))]
-fn write_locate_reply(alloc: Global, id: u32, status: u32, order: Order) -> Result<Bytes, NoMemory>
-    requires { Writable (messages.LocateReply id status) order }
-    ensures { IfOk result (λ bytes. bytes ≡ written_message (messages.LocateReply id status) order) }
+fn write_id(id: u32, writer: &mut CdrWriter) -> Result<(), NoMemory>
+    ensures { OnOk result (writer.new ≡ appended written_fields (messages.Cancel id) writer.old) }
 {
-    let mut fields = begin_fields(alloc, order, FIELDS_ROOM)?;
-    fields.write_u32(id)?;
-    fields.write_u32(status)?;
-    whole(alloc, Kind::LocateReply, order, fields.bytes())
+    writer.write_u32(id)?;
+    Ok(())
 }
 
-#[tactic(auto, using(crate::proofs::WritingSteps::payload_short, crate::proofs::WritingSteps::fragment_written))]
-fn write_fragment(alloc: Global, id: u32, rest: &[u8], order: Order) -> Result<Bytes, NoMemory>
-    requires { Writable (messages.Fragment id rest.now) order }
-    ensures { IfOk result (λ bytes. bytes ≡ written_message (messages.Fragment id rest.now) order) }
+/// What stands behind the header.
+#[tactic(auto, using(crate::proofs::WritingSteps::nothing_closed, crate::proofs::WritingSteps::nothing_wrong))]
+fn write_fields(message: &Message, writer: &mut CdrWriter) -> Result<(), NoMemory>
+    requires { HasFields writer.now.order message.now }
+    ensures written { OnOk result (writer.new ≡ appended written_fields message.now writer.old) }
+    ensures numbered { OnOk result (IsNumbered message.now) }
 {
-    let mut fields = begin_fields(alloc, order, FIELDS_ROOM)?;
-    fields.write_u32(id)?;
-    fields.write_piece(1, rest)?;
-    whole(alloc, Kind::Fragment, order, fields.bytes())
+    match message {
+        Message::Request(request) => write_request(request, writer),
+        Message::Reply(reply) => write_reply(reply, writer),
+        Message::Cancel(id) => write_id(*id, writer),
+        Message::LocateRequest(id, key) => write_locate_request(*id, key.bytes(), writer),
+        Message::LocateReply(id, status) => write_locate_reply(*id, *status, writer),
+        Message::CloseConnection => Ok(()),
+        Message::MessageError => Ok(()),
+        Message::Fragment(id, rest) => write_fragment(*id, rest.bytes(), writer),
+    }
+}
+
+// Room for what stands behind the header, where there are no contexts.
+fn fields_room(message: &Message, order: Order) -> usize
+    requires { HasFields order message.now }
+    ensures { result < 2 ^ 39 }
+{
+    let texts = match message {
+        Message::Request(request) => {
+            request.key.bytes().len() + request.op.bytes().len() + request.body.bytes.bytes().len()
+        }
+        Message::Reply(reply) => reply.body.bytes.bytes().len(),
+        Message::Cancel(_) => 0,
+        Message::LocateRequest(_, key) => key.bytes().len(),
+        Message::LocateReply(_, _) => 0,
+        Message::CloseConnection => 0,
+        Message::MessageError => 0,
+        Message::Fragment(_, rest) => rest.bytes().len(),
+    };
+    FIELDS_ROOM + texts
 }
 
 fn write_exactly(alloc: Global, message: &Message, order: Order) -> Result<Bytes, NoMemory>
@@ -150,16 +135,10 @@ fn write_exactly(alloc: Global, message: &Message, order: Order) -> Result<Bytes
     ensures written { IfOk result (λ bytes. bytes ≡ written_message message.now order) }
     ensures numbered { IfOk result (λ bytes. IsNumbered message.now) }
 {
-    match message {
-        Message::Request(request) => write_request(alloc, request, order),
-        Message::Reply(reply) => write_reply(alloc, reply, order),
-        Message::Cancel(id) => write_cancel(alloc, *id, order),
-        Message::LocateRequest(id, key) => write_locate_request(alloc, *id, key.bytes(), order),
-        Message::LocateReply(id, status) => write_locate_reply(alloc, *id, *status, order),
-        Message::CloseConnection => whole(alloc, Kind::CloseConnection, order, &[]),
-        Message::MessageError => whole(alloc, Kind::MessageError, order, &[]),
-        Message::Fragment(id, rest) => write_fragment(alloc, *id, rest.bytes(), order),
-    }
+    let room = fields_room(message, order);
+    let mut writer = begin_message(alloc, message.kind(), order, room)?;
+    write_fields(message, &mut writer)?;
+    Ok(with_size(writer))
 }
 
 /// The bytes of a message in this byte order, with padding and reserved octets of 0.

@@ -18,10 +18,11 @@ use Rattle.giop_messages.specs.declared.heads.Kind.TheVariants as kinds
 use Rattle.giop_messages.specs.Faults.{up}
 use Rattle.giop_messages.specs.Fields.{request_id}
 use Rattle.giop_messages.specs.Heads.{has_parts, head_in, header, more_in}
-use Rattle.giop_messages.specs.declared.heads.TheConstants.{MESSAGE_LIMIT}
+use Rattle.giop_messages.specs.declared.heads.TheConstants.{HEAD_LENGTH, MESSAGE_LIMIT}
 use Rattle.giop_messages.specs.Messages.{fields_in, kind_in, payload_at}
 use Rattle.giop_messages.specs.Writing.{written_payload}
 use Rattle.giop_messages.specs.Laws.{MessagesAreReadBack}
+use Rattle.giop_stream.specs.declared.begun.TheConstants.{FRAGMENT_HEAD}
 use Rattle.giop_stream.specs.declared.faults.StreamFault.{StreamFault}
 use Rattle.giop_stream.specs.declared.faults.StreamFault.TheVariants as faults
 use Rattle.giop_stream.specs.declared.fronts.Front.TheVariants.{Whole}
@@ -37,7 +38,7 @@ use Rattle.giop_stream.proofs.WrittenLaws.{front_of_written, message_of_written,
 
 -- ---- the header of a part
 
-part_twelve : (order : Order) (kind : Kind) (more : Bool) (size : ℕ) → length (header.written Big 0 (part_head order kind more size)) ≡ 12
+part_twelve : (order : Order) (kind : Kind) (more : Bool) (size : ℕ) → length (header.written Big 0 (part_head order kind more size)) ≡ HEAD_LENGTH
 part_twelve Big kind true size = refl
 part_twelve Big kind false size = refl
 part_twelve Little kind true size = refl
@@ -74,21 +75,21 @@ flags_wrong parts = not parts
 abbrev length_wrong : ℕ → Bool
 length_wrong n = not (n == 0)
 
-part_framed : (order : Order) (kind : Kind) (more : Bool) (size : ℕ) → has_parts kind ≡ true → ((more ≡ true) → (12 + size) % 8 ≡ 0) → 12 + size ≤ MESSAGE_LIMIT
+part_framed : (order : Order) (kind : Kind) (more : Bool) (size : ℕ) → has_parts kind ≡ true → ((more ≡ true) → (HEAD_LENGTH + size) % 8 ≡ 0) → HEAD_LENGTH + size ≤ MESSAGE_LIMIT
     → framed (part_head order kind more size) ≡ Ok (part_head order kind more size)
 part_framed Big kind true size parts even small =
-    passes_tests (part_head Big kind true size) (nat_lt MESSAGE_LIMIT (12 + size)) (not (has_parts kind)) (length_wrong ((12 + size) % 8)) _ _ _
-    (le-ltb MESSAGE_LIMIT (12 + size) small) (ap flags_wrong parts) (ap length_wrong (even refl))
-part_framed Big kind false size parts even small = cond-false (nat_lt MESSAGE_LIMIT (12 + size)) _ _ (le-ltb MESSAGE_LIMIT (12 + size) small)
+    passes_tests (part_head Big kind true size) (nat_lt MESSAGE_LIMIT (HEAD_LENGTH + size)) (not (has_parts kind)) (length_wrong ((HEAD_LENGTH + size) % 8)) _ _ _
+    (le-ltb MESSAGE_LIMIT (HEAD_LENGTH + size) small) (ap flags_wrong parts) (ap length_wrong (even refl))
+part_framed Big kind false size parts even small = cond-false (nat_lt MESSAGE_LIMIT (HEAD_LENGTH + size)) _ _ (le-ltb MESSAGE_LIMIT (HEAD_LENGTH + size) small)
 part_framed Little kind true size parts even small =
-    passes_tests (part_head Little kind true size) (nat_lt MESSAGE_LIMIT (12 + size)) (not (has_parts kind)) (length_wrong ((12 + size) % 8)) _ _ _
-    (le-ltb MESSAGE_LIMIT (12 + size) small) (ap flags_wrong parts) (ap length_wrong (even refl))
-part_framed Little kind false size parts even small = cond-false (nat_lt MESSAGE_LIMIT (12 + size)) _ _ (le-ltb MESSAGE_LIMIT (12 + size) small)
+    passes_tests (part_head Little kind true size) (nat_lt MESSAGE_LIMIT (HEAD_LENGTH + size)) (not (has_parts kind)) (length_wrong ((HEAD_LENGTH + size) % 8)) _ _ _
+    (le-ltb MESSAGE_LIMIT (HEAD_LENGTH + size) small) (ap flags_wrong parts) (ap length_wrong (even refl))
+part_framed Little kind false size parts even small = cond-false (nat_lt MESSAGE_LIMIT (HEAD_LENGTH + size)) _ _ (le-ltb MESSAGE_LIMIT (HEAD_LENGTH + size) small)
 
 -- ---- a part as a whole, where any messages are begun
 
 part_taken : Laws → (os : List Begun) (order : Order) (kind : Kind) (more : Bool) (payload behind_it : List ℕ) (t : Turn) → has_parts kind ≡ true
-    → ((more ≡ true) → (12 + length payload) % 8 ≡ 0) → 12 + length payload ≤ MESSAGE_LIMIT
+    → ((more ≡ true) → (HEAD_LENGTH + length payload) % 8 ≡ 0) → HEAD_LENGTH + length payload ≤ MESSAGE_LIMIT
     → turn os (part_head order kind more (length payload)) (part order kind more payload) ≡ t
     → stream_on os (part order kind more payload ++ behind_it) ≡ turned t behind_it stream_on
 part_taken laws os order kind more payload behind_it t parts even small is =
@@ -106,32 +107,32 @@ part_taken laws os order kind more payload behind_it t parts even small is =
 -- ---- its request id
 
 id_read : (order : Order) (id : ℕ) (rest : List ℕ) → id < 2 ^ 32
-    → request_id.read (reader_at order 12 (digits_in order 4 id ++ rest)) ≡ lift up (done (id, reader_at order (12 + length (digits_in order 4 id)) rest))
+    → request_id.read (reader_at order HEAD_LENGTH (digits_in order 4 id ++ rest)) ≡ lift up (done (id, reader_at order (HEAD_LENGTH + length (digits_in order 4 id)) rest))
 id_read order id rest fits =
-    ap (lift up) ((number_codec 4).again order 12 id (digits_in order 4 id) rest ((number_codec 4).spells order 12 id fits))
+    ap (lift up) ((number_codec 4).again order HEAD_LENGTH id (digits_in order 4 id) rest ((number_codec 4).spells order HEAD_LENGTH id fits))
 
-id_in_part : (order : Order) (id : ℕ) (p rest : List ℕ) → id < 2 ^ 32 → drop 12 p ≡ digits_in order 4 id ++ rest → id_in order p ≡ Ok id
+id_in_part : (order : Order) (id : ℕ) (p rest : List ℕ) → id < 2 ^ 32 → drop HEAD_LENGTH p ≡ digits_in order 4 id ++ rest → id_in order p ≡ Ok id
 unfolding id_in
 id_in_part order id p rest fits e =
-    ap (λ (xs : List ℕ). told (request_id.read (reader_at order 12 xs) >>= λ x. Ok x.0)) e
+    ap (λ (xs : List ℕ). told (request_id.read (reader_at order HEAD_LENGTH xs) >>= λ x. Ok x.0)) e
     ∙ ap (λ (r : Read Why ℕ). told (r >>= λ x. Ok x.0)) (id_read order id rest fits)
 
-payload_behind : (order : Order) (kind : Kind) (more : Bool) (payload : List ℕ) → drop 12 (part order kind more payload) ≡ payload
+payload_behind : (order : Order) (kind : Kind) (more : Bool) (payload : List ℕ) → drop HEAD_LENGTH (part order kind more payload) ≡ payload
 payload_behind order kind more payload =
-    drop_at (header.written Big 0 (part_head order kind more (length payload))) payload 12 (part_twelve order kind more (length payload))
+    drop_at (header.written Big 0 (part_head order kind more (length payload))) payload HEAD_LENGTH (part_twelve order kind more (length payload))
 
-rest_behind : (order : Order) (kind : Kind) (more : Bool) (id : ℕ) (rest : List ℕ) → drop 16 (part order kind more (digits_in order 4 id ++ rest)) ≡ rest
+rest_behind : (order : Order) (kind : Kind) (more : Bool) (id : ℕ) (rest : List ℕ) → drop FRAGMENT_HEAD (part order kind more (digits_in order 4 id ++ rest)) ≡ rest
 rest_behind order kind more id rest =
     let digits = digits_in order 4 id in
     let head = header.written Big 0 (part_head order kind more (length (digits ++ rest))) in
-    let long : length (head ++ digits) ≡ 16 =
+    let long : length (head ++ digits) ≡ FRAGMENT_HEAD =
     omega (arith, length-append head digits, part_twelve order kind more (length (digits ++ rest)), length_digits order 4 id) in
-    ap (drop 16) (sym (append_assoc head digits rest)) ∙ drop_at (head ++ digits) rest 16 long
+    ap (drop FRAGMENT_HEAD) (sym (append_assoc head digits rest)) ∙ drop_at (head ++ digits) rest FRAGMENT_HEAD long
 
 -- ---- what each part does
 
 abbrev first_begun : Head → ℕ → List ℕ → Begun
-first_begun h id p = record { id = id; head = h; payload = drop 12 p; spent = length p }
+first_begun h id p = record { id = id; head = h; payload = drop HEAD_LENGTH p; spent = length p }
 
 first_turn : (order : Order) (kind : Kind) (id : ℕ) (first : List ℕ) → is_fragment kind ≡ false → id < 2 ^ 32
     → (let payload = digits_in order 4 id ++ first in
@@ -142,8 +143,8 @@ first_turn order kind id first own fits =
     let payload = digits_in order 4 id ++ first in
     let h = part_head order kind true (length payload) in
     let p = part order kind true payload in
-    cond-false (is_fragment kind) (fragment [] h p) (cond (more_in h.flags) (begins [] h p) (gave [] (message_of h (drop 12 p)))) own
-    ∙ ap (λ (b : Bool). cond b (begins [] h p) (gave [] (message_of h (drop 12 p)))) (part_more order kind true (length payload))
+    cond-false (is_fragment kind) (fragment [] h p) (cond (more_in h.flags) (begins [] h p) (gave [] (message_of h (drop HEAD_LENGTH p)))) own
+    ∙ ap (λ (b : Bool). cond b (begins [] h p) (gave [] (message_of h (drop HEAD_LENGTH p)))) (part_more order kind true (length payload))
     ∙ ap (λ (x : Order). begins_by [] h p (id_in x p)) (part_order order kind true (length payload))
     ∙ ap (begins_by [] h p) (id_in_part order id p first fits (payload_behind order kind true payload))
 
@@ -165,8 +166,8 @@ fragment_turn o order id more rest fits e small =
     let p = fragment_of order id more rest in
     ap (λ (x : Order). fragment_by (o ∷ []) (more_in h.flags) p (id_in x p)) (part_order order kinds.Fragment more (length payload))
     ∙ ap (fragment_by (o ∷ []) (more_in h.flags) p) (id_in_part order id p rest fits (payload_behind order kinds.Fragment more payload))
-    ∙ ap (λ (b : Bool). fragment_at (o ∷ []) b (drop 16 p) (place_of id (o ∷ []))) (part_more order kinds.Fragment more (length payload))
-    ∙ ap (fragment_at (o ∷ []) more (drop 16 p)) (place_here o id e)
+    ∙ ap (λ (b : Bool). fragment_at (o ∷ []) b (drop FRAGMENT_HEAD p) (place_of id (o ∷ []))) (part_more order kinds.Fragment more (length payload))
+    ∙ ap (fragment_at (o ∷ []) more (drop FRAGMENT_HEAD p)) (place_here o id e)
     ∙ ap (λ (xs : List ℕ). grows_at (o ∷ []) 0 more xs (Some o)) (rest_behind order kinds.Fragment more id rest)
     ∙ cond-false (nat_lt MESSAGE_LIMIT (joined_size o rest)) (Fails (faults.TooLarge (joined_size o rest))) (grown_or o more rest)
     (le-ltb MESSAGE_LIMIT (joined_size o rest) small)
@@ -183,7 +184,7 @@ record IsPartOf (m : Received) (id : ℕ) (o : Begun) (left : List ℕ) : Type 0
 
 -- of a header its byte order and its type count
 abbrev fields_by : Order → Kind → List ℕ → Result Received StreamFault
-fields_by order kind payload = told (payload_at kind (reader_at order 12 payload) >>= λ m. Ok (m, order))
+fields_by order kind payload = told (payload_at kind (reader_at order HEAD_LENGTH payload) >>= λ m. Ok (m, order))
 
 sign_means : (order : Order) → order_of (order_sign order) ≡ order
 sign_means Big = refl
@@ -201,35 +202,35 @@ unfolding message_of
 whole_message laws back m id o last w p =
     let payload = written_payload m.1 m.0 in
     let h = sized_head m.1 (kind_in m.0) (length payload) in
-    let long : length (header.written Big 0 h) ≡ 12 = twelve m.1 (kind_in m.0) (length payload) in
-    let whole : length (written m) ≡ 12 + length payload = omega (arith, length-append (header.written Big 0 h) payload) in
+    let long : length (header.written Big 0 h) ≡ HEAD_LENGTH = twelve m.1 (kind_in m.0) (length payload) in
+    let whole : length (written m) ≡ HEAD_LENGTH + length payload = omega (arith, length-append (header.written Big 0 h) payload) in
     let read : head_in (written m) ≡ Ok h = laws.headers h payload (sign_small m.1) (omega (arith, w.writable.sized)) in
-    let there : message_of h (drop 12 (written m)) ≡ Ok m = message_of_written laws back m h w (sign_fits m.1 (kind_in m.0) (length payload)) whole read in
+    let there : message_of h (drop HEAD_LENGTH (written m)) ≡ Ok m = message_of_written laws back m h w (sign_fits m.1 (kind_in m.0) (length payload)) whole read in
     same_fields o.head m (o.payload ++ last) (length payload) p.order_is p.kind_is
-    ∙ ap (λ (xs : List ℕ). told (fields_in h xs)) (sym p.is ∙ sym (drop_at (header.written Big 0 h) payload 12 long)) ∙ there
+    ∙ ap (λ (xs : List ℕ). told (fields_in h xs)) (sym p.is ∙ sym (drop_at (header.written Big 0 h) payload HEAD_LENGTH long)) ∙ there
 
-small_message : (m : Received) → IsWritable m → 12 + length (written_payload m.1 m.0) ≤ MESSAGE_LIMIT
+small_message : (m : Received) → IsWritable m → HEAD_LENGTH + length (written_payload m.1 m.0) ≤ MESSAGE_LIMIT
 small_message m w =
     let payload = written_payload m.1 m.0 in
     let h = sized_head m.1 (kind_in m.0) (length payload) in
-    let long : length (header.written Big 0 h) ≡ 12 = twelve m.1 (kind_in m.0) (length payload) in
+    let long : length (header.written Big 0 h) ≡ HEAD_LENGTH = twelve m.1 (kind_in m.0) (length payload) in
     omega (arith, length-append (header.written Big 0 h) payload, w.writable.sized)
 
 -- a further rest of the message makes it no larger than it is, nor is its part larger
 joined_small : (m : Received) (id : ℕ) (o : Begun) (rest left : List ℕ) → IsWritable m → IsPartOf m id o (rest ++ left) → joined_size o rest ≤ MESSAGE_LIMIT
 joined_small m id o rest left w p =
-    let small : 12 + length (written_payload m.1 m.0) ≤ MESSAGE_LIMIT = small_message m w in
+    let small : HEAD_LENGTH + length (written_payload m.1 m.0) ≤ MESSAGE_LIMIT = small_message m w in
     omega (arith, ap length p.is, length-append o.payload (rest ++ left), length-append rest left)
 
 part_fits : (m : Received) (id : ℕ) (o : Begun) (rest left : List ℕ) → IsWritable m → IsPartOf m id o (rest ++ left)
-    → 12 + length (digits_in m.1 4 id ++ rest) ≤ MESSAGE_LIMIT
+    → HEAD_LENGTH + length (digits_in m.1 4 id ++ rest) ≤ MESSAGE_LIMIT
 part_fits m id o rest left w p =
     let small : joined_size o rest ≤ MESSAGE_LIMIT = joined_small m id o rest left w p in
     omega (arith, length-append (digits_in m.1 4 id) rest, length_digits m.1 4 id, p.long)
 
-even_part : (order : Order) (id : ℕ) (rest : List ℕ) → length rest % 8 ≡ 0 → (12 + length (digits_in order 4 id ++ rest)) % 8 ≡ 0
+even_part : (order : Order) (id : ℕ) (rest : List ℕ) → length rest % 8 ≡ 0 → (HEAD_LENGTH + length (digits_in order 4 id ++ rest)) % 8 ≡ 0
 even_part order id rest e =
-    let long : 12 + length (digits_in order 4 id ++ rest) ≡ 16 + length rest = omega (arith, length-append (digits_in order 4 id) rest, length_digits order 4 id) in
+    let long : HEAD_LENGTH + length (digits_in order 4 id ++ rest) ≡ FRAGMENT_HEAD + length rest = omega (arith, length-append (digits_in order 4 id) rest, length_digits order 4 id) in
     omega arith
 
 with_rest : (m : Received) (id : ℕ) (o : Begun) (rest left : List ℕ) → IsPartOf m id o (rest ++ left) → IsPartOf m id (grown o rest) left
@@ -276,7 +277,7 @@ cut_joined laws back m id first sent last c =
     let on = flat_map (sent_bytes m.1 id) sent ++ fragment_of m.1 id false last in
     let o = first_begun (part_head m.1 (kind_in m.0) true (length payload)) id (part m.1 (kind_in m.0) true payload) in
     let same : o.payload ≡ payload = payload_behind m.1 (kind_in m.0) true payload in
-    let small : 12 + length payload ≤ MESSAGE_LIMIT = omega (arith, small_message m c.writable, ap length c.is, length-append payload left) in
+    let small : HEAD_LENGTH + length payload ≤ MESSAGE_LIMIT = omega (arith, small_message m c.writable, ap length c.is, length-append payload left) in
     part_taken laws [] m.1 (kind_in m.0) true payload on (Joins (o ∷ [])) c.parts (λ e. even_part m.1 id first c.first_fits) small
     (first_turn m.1 (kind_in m.0) id first c.writable.whole c.id_fits)
     ∙ parts_joined laws back m id last c.writable c.id_fits sent o c.each (record {

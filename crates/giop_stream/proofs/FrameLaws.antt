@@ -3,13 +3,15 @@ use Rattle.std.proofs.Common.{◌≡◌, ℕ, ◌+◌, ◌<◌, ◌≤◌, List,
 use Rattle.std.specs.Prelude.{◌-◌, nat_lt}
 use Rattle.std.proofs.lemmas.Bool.{cond-false, cond-true, le-ltb, lt-ltb}
 use Rattle.std.proofs.lemmas.List.{append-nil, take-append-le}
+use Rattle.giop_messages.specs.declared.heads.TheConstants.{HEAD_LENGTH}
 use Rattle.giop_messages.specs.declared.heads.Head.{Head}
 use Rattle.giop_stream.specs.declared.faults.StreamFault.{StreamFault}
 use Rattle.giop_stream.specs.declared.faults.StreamFault.TheVariants as faults
 use Rattle.giop_stream.specs.declared.framers.Step.TheVariants as steps
 use Rattle.giop_stream.specs.declared.fronts.Front.TheVariants.{Partly, Wrong, Whole}
 use Rattle.giop_stream.specs.Buffers.{Buffered}
-use Rattle.giop_stream.specs.Faults.{OnFault}
+use Rattle.cdr_codec.specs.Calls.{OnFault}
+use Rattle.giop_stream.specs.Faults.{link_fault}
 use Rattle.giop_stream.specs.Fronts.{total, needed, front, fronted, head_at, header_at_front, if_read, read_of, judged_front, IsJudgedAt}
 use Rattle.giop_stream.specs.Parts.{Received, Begun, capped, Turn, Joins, Gives, Fails, turn}
 use Rattle.giop_stream.specs.Streams.{End, Rest, Stops, behind, stops, spent_in, turned, stream_on, stream}
@@ -33,11 +35,11 @@ passes_on f g k ms p q = record { on = λ more. p.on more ∙ q.on more }
 
 -- ---- the header at the front
 
-header_short : (bytes : List ℕ) → length bytes < 12 → header_at_front bytes ≡ Ok None
-header_short bytes h = cond-true (nat_lt (length bytes) 12) (Ok None) (if_read (head_at (take 12 bytes))) (lt-ltb (length bytes) 12 h)
+header_short : (bytes : List ℕ) → length bytes < HEAD_LENGTH → header_at_front bytes ≡ Ok None
+header_short bytes h = cond-true (nat_lt (length bytes) HEAD_LENGTH) (Ok None) (if_read (head_at (take HEAD_LENGTH bytes))) (lt-ltb (length bytes) HEAD_LENGTH h)
 
-header_long : (bytes : List ℕ) → 12 ≤ length bytes → header_at_front bytes ≡ if_read (head_at (take 12 bytes))
-header_long bytes h = cond-false (nat_lt (length bytes) 12) (Ok None) (if_read (head_at (take 12 bytes))) (le-ltb (length bytes) 12 h)
+header_long : (bytes : List ℕ) → HEAD_LENGTH ≤ length bytes → header_at_front bytes ≡ if_read (head_at (take HEAD_LENGTH bytes))
+header_long bytes h = cond-false (nat_lt (length bytes) HEAD_LENGTH) (Ok None) (if_read (head_at (take HEAD_LENGTH bytes))) (le-ltb (length bytes) HEAD_LENGTH h)
 
 pub looked_none : (f : Frames) (r : Result (Option Head) StreamFault) → r ≡ header_at_front f.rest → f.head ≡ read_of r → f ≡ looked f
 looked_none f r e h = ap (λ (head : Option Head). record f { head = head }) (h ∙ ap read_of e)
@@ -118,18 +120,18 @@ stepped_gives f k g h m e w l took =
     )
 
 -- the fault comes whatever follows
-stops_all : (f k : Frames) (fault : StreamFault) → k ≡ looked f → ((more : List ℕ) → OnFault fault (resume f more ≡ stops fault))
+stops_all : (f k : Frames) (fault : StreamFault) → k ≡ looked f → ((more : List ℕ) → OnFault (link_fault fault) (resume f more ≡ stops fault))
     → Stepped (Err fault) f (stop_at k fault)
 stops_all f k (faults.Malformed why place) l h = (record { on = λ more. h more }, refl)
 stops_all f k (faults.TooLarge size) l h = (record { on = λ more. h more }, refl)
 stops_all f k faults.NoMemory l h = (record { on = λ more. ap (λ (k : Frames). resume k more) (sym l) }, tt)
 
-on_fault : (fault : StreamFault) (P Q : Type 0) → (P → Q) → OnFault fault P → OnFault fault Q
+on_fault : (fault : StreamFault) (P Q : Type 0) → (P → Q) → OnFault (link_fault fault) P → OnFault (link_fault fault) Q
 on_fault (faults.Malformed why place) P Q f p = f p
 on_fault (faults.TooLarge size) P Q f p = f p
 on_fault faults.NoMemory P Q f p = tt
 
-any_fault : (fault : StreamFault) (P : Type 0) → P → OnFault fault P
+any_fault : (fault : StreamFault) (P : Type 0) → P → OnFault (link_fault fault) P
 any_fault (faults.Malformed why place) P p = p
 any_fault (faults.TooLarge size) P p = p
 any_fault faults.NoMemory P p = tt
@@ -175,7 +177,7 @@ stands_fed f g piece fed given e s =
 judged_on : (head : Option Head) (rest piece : List ℕ) → IsJudgedAt head rest → IsJudgedAt head (rest ++ piece)
 judged_on None rest piece j = tt
 judged_on (Some h) rest piece j =
-    (omega (arith, length-append rest piece), ap head_at (take-append-le 12 rest piece j.0) ∙ j.1, j.2)
+    (omega (arith, length-append rest piece), ap head_at (take-append-le HEAD_LENGTH rest piece j.0) ∙ j.1, j.2)
 
 -- and fewer bytes are missing
 pub kept_on : (need left : ℕ) (f : Frames) (b c : Buffered) (piece : List ℕ) → IsKept need (record f { rest = b.unused; used = b.used })

@@ -8,7 +8,8 @@ use Rattle.giop_stream.specs.declared.faults.StreamFault.TheVariants as faults
 use Rattle.giop_stream.specs.declared.sessions.StreamEnd.{StreamEnd}
 use Rattle.giop_stream.specs.declared.sessions.SessionStep.{SessionStep}
 use Rattle.giop_stream.specs.declared.sessions.SessionStep.TheVariants as steps
-use Rattle.giop_stream.specs.Faults.{OnFault}
+use Rattle.cdr_codec.specs.Calls.{OnFault}
+use Rattle.giop_stream.specs.Faults.{link_fault}
 use Rattle.giop_stream.specs.Parts.{Received}
 use Rattle.giop_stream.specs.Streams.{End, Rest, Stops, Streamed, behind, stops, stream}
 use Rattle.giop_stream.specs.Frames.{EndsWith, Frames, HasNext, Stands, resume}
@@ -148,7 +149,7 @@ goes_taken steps.Wait m s k t fed given e f took stands h = absurd took
 goes_taken (steps.End end) m s k t fed given e f took stands h =
     ends_by t fed given end (ap (λ (t : Serving). t.ended) took.1) (λ more. on_message s k.frames fed given m (Some end) more e h stands took.0)
 
-of_fault : (fault : StreamFault) (P : Type 0) → IsOfLink fault → OnFault fault P → P
+of_fault : (fault : StreamFault) (P : Type 0) → IsOfLink fault → OnFault (link_fault fault) P → P
 of_fault (faults.Malformed why place) P of p = p
 of_fault (faults.TooLarge size) P of p = p
 of_fault faults.NoMemory P of p = absurd of

@@ -15,9 +15,10 @@ use Rattle.giop_messages.specs.declared.faults.Why.TheVariants as causes
 use Rattle.giop_messages.specs.declared.heads.Head.{Head}
 use Rattle.giop_messages.specs.declared.heads.Kind.{Kind}
 use Rattle.giop_messages.specs.Heads.{flags_fit, head_in, header, more_in}
-use Rattle.giop_messages.specs.declared.heads.TheConstants.{MESSAGE_LIMIT}
+use Rattle.giop_messages.specs.declared.heads.TheConstants.{HEAD_LENGTH, MESSAGE_LIMIT}
 use Rattle.giop_messages.specs.Messages.{fields_in, message_in, payload_at}
 use Rattle.giop_messages.specs.Laws.{HeadersAreReadBack, MessagesAreFieldsBehindHeaders, MessagesAreReadExactly}
+use Rattle.giop_stream.specs.declared.begun.TheConstants.{FRAGMENT_HEAD}
 use Rattle.giop_stream.specs.declared.faults.StreamFault.{StreamFault}
 use Rattle.giop_stream.specs.declared.faults.StreamFault.TheVariants as faults
 use Rattle.giop_stream.specs.declared.fronts.Front.{Front}
@@ -56,26 +57,26 @@ pub length_digits : (order : Order) (size n : ℕ) → length (digits_in order s
 length_digits Big size n = length-bytes_high_first size n
 length_digits Little size n = length-bytes_low_first 0 size n
 
-pub twelve : (order : Order) (kind : Kind) (size : ℕ) → length (header.written Big 0 (sized_head order kind size)) ≡ 12
+pub twelve : (order : Order) (kind : Kind) (size : ℕ) → length (header.written Big 0 (sized_head order kind size)) ≡ HEAD_LENGTH
 twelve Big kind size = refl
 twelve Little kind size = refl
 
 abbrev fields_by : Order → Kind → List ℕ → Result Received (Fault Why)
-fields_by order kind payload = payload_at kind (reader_at order 12 payload) >>= λ m. Ok (m, order)
+fields_by order kind payload = payload_at kind (reader_at order HEAD_LENGTH payload) >>= λ m. Ok (m, order)
 
-pub fields_spelled : Laws → (h : Head) (payload : List ℕ) (m : Received) → 12 + length payload ≤ MESSAGE_LIMIT → fields_in h payload ≡ Ok m → IsSpelled m
+pub fields_spelled : Laws → (h : Head) (payload : List ℕ) (m : Received) → HEAD_LENGTH + length payload ≤ MESSAGE_LIMIT → fields_in h payload ≡ Ok m → IsSpelled m
 fields_spelled laws h payload m small e =
     let order = order_of h.flags in
     let k = sized_head order h.kind (length payload) in
     let front = header.written Big 0 k in
-    let long : length front ≡ 12 = twelve order h.kind (length payload) in
-    let whole : length (front ++ payload) ≡ 12 + length payload = omega (arith, length-append front payload) in
+    let long : length front ≡ HEAD_LENGTH = twelve order h.kind (length payload) in
+    let whole : length (front ++ payload) ≡ HEAD_LENGTH + length payload = omega (arith, length-append front payload) in
     let read : head_in (front ++ payload) ≡ Ok k = laws.headers k payload (sign_small order) (omega arith) in
-    let same : fields_in k (drop 12 (front ++ payload)) ≡ fields_in h payload =
-    ap (fields_in k) (drop_at front payload 12 long) ∙ ap (λ (o : Order). fields_by o h.kind payload) (sign_means order) in
+    let same : fields_in k (drop HEAD_LENGTH (front ++ payload)) ≡ fields_in h payload =
+    ap (fields_in k) (drop_at front payload HEAD_LENGTH long) ∙ ap (λ (o : Order). fields_by o h.kind payload) (sign_means order) in
     let there : message_in (front ++ payload) ≡ Ok m =
-    laws.fields (front ++ payload) (drop 12 (front ++ payload)) k read (sign_fits order h.kind (length payload)) refl
-    (ap length (sym (drop_at front payload 12 long))) (omega (arith, whole)) ∙ same ∙ e in
+    laws.fields (front ++ payload) (drop HEAD_LENGTH (front ++ payload)) k read (sign_fits order h.kind (length payload)) refl
+    (ap length (sym (drop_at front payload HEAD_LENGTH long))) (omega (arith, whole)) ∙ same ∙ e in
     record { bytes = front ++ payload; small = omega arith; spelled = (laws.exactly (front ++ payload) m.0 m.1).0 there }
 
 -- ---- a turn gives only spelled messages
@@ -85,7 +86,7 @@ IsSpelledTurn (Joins os) = Unit {0}
 IsSpelledTurn (Gives m os) = IsSpelled m
 IsSpelledTurn (Fails fault) = Unit {0}
 
-gave_spelled : Laws → (os : List Begun) (h : Head) (payload : List ℕ) → 12 + length payload ≤ MESSAGE_LIMIT → IsSpelledTurn (gave os (message_of h payload))
+gave_spelled : Laws → (os : List Begun) (h : Head) (payload : List ℕ) → HEAD_LENGTH + length payload ≤ MESSAGE_LIMIT → IsSpelledTurn (gave os (message_of h payload))
 unfolding message_of
 gave_spelled laws os h payload small = go (fields_in h payload) refl
   where
@@ -97,7 +98,7 @@ begins_spelled : (os : List Begun) (h : Head) (part : List ℕ) (r : Result ℕ 
 begins_spelled os h part (Err fault) = tt
 begins_spelled os h part (Ok id) = go (is_some (place_of id os)) (nat_lt (length os) begun_limit)
   where
-    go : (b d : Bool) → IsSpelledTurn (cond b out_of_turn (cond d (Joins (os ++ record { id = id; head = h; payload = drop 12 part; spent = length part } ∷ [])) out_of_turn))
+    go : (b d : Bool) → IsSpelledTurn (cond b out_of_turn (cond d (Joins (os ++ record { id = id; head = h; payload = drop HEAD_LENGTH part; spent = length part } ∷ [])) out_of_turn))
     go true d = tt
     go false true = tt
     go false false = tt
@@ -120,16 +121,16 @@ fragment_spelled laws os more rest (Some at) = grows_spelled laws os at more res
 
 fragment_by_spelled : Laws → (os : List Begun) (more : Bool) (part : List ℕ) (r : Result ℕ StreamFault) → IsSpelledTurn (fragment_by os more part r)
 fragment_by_spelled laws os more part (Err fault) = tt
-fragment_by_spelled laws os more part (Ok id) = fragment_spelled laws os more (drop 16 part) (place_of id os)
+fragment_by_spelled laws os more part (Ok id) = fragment_spelled laws os more (drop FRAGMENT_HEAD part) (place_of id os)
 
-turn_spelled : Laws → (os : List Begun) (h : Head) (part : List ℕ) → 12 ≤ length part → length part ≤ MESSAGE_LIMIT → IsSpelledTurn (turn os h part)
+turn_spelled : Laws → (os : List Begun) (h : Head) (part : List ℕ) → HEAD_LENGTH ≤ length part → length part ≤ MESSAGE_LIMIT → IsSpelledTurn (turn os h part)
 unfolding turn
 turn_spelled laws os h part long few = go (is_fragment h.kind) (more_in h.flags)
   where
-    go : (b d : Bool) → IsSpelledTurn (cond b (fragment os h part) (cond d (begins os h part) (gave os (message_of h (drop 12 part)))))
+    go : (b d : Bool) → IsSpelledTurn (cond b (fragment os h part) (cond d (begins os h part) (gave os (message_of h (drop HEAD_LENGTH part)))))
     go true d = fragment_by_spelled laws os (more_in h.flags) part (id_in (order_of h.flags) part)
     go false true = begins_spelled os h part (id_in (order_of h.flags) part)
-    go false false = gave_spelled laws os h (drop 12 part) (omega (arith, length-drop 12 part))
+    go false false = gave_spelled laws os h (drop HEAD_LENGTH part) (omega (arith, length-drop HEAD_LENGTH part))
 
 -- ---- a whole message or part has at most 1 MiB, and all its bytes are there
 
@@ -170,11 +171,11 @@ fronted_small bytes (Ok h) small = go (nat_lt (length bytes) (total h)) refl
     go false e = (small, ltb-false (length bytes) (total h) e)
 
 front_small : (bytes : List ℕ) → IsSmallFront (front bytes) bytes
-front_small bytes = go (nat_lt (length bytes) 12)
+front_small bytes = go (nat_lt (length bytes) HEAD_LENGTH)
   where
-    go : (b : Bool) → IsSmallFront (cond b Partly (fronted bytes (head_at (take 12 bytes)))) bytes
+    go : (b : Bool) → IsSmallFront (cond b Partly (fronted bytes (head_at (take HEAD_LENGTH bytes)))) bytes
     go true = tt
-    go false = fronted_small bytes (head_at (take 12 bytes)) (head_small (take 12 bytes))
+    go false = fronted_small bytes (head_at (take HEAD_LENGTH bytes)) (head_small (take HEAD_LENGTH bytes))
 
 -- ---- the stream
 

@@ -3,6 +3,7 @@ use Rattle.std.proofs.Common.{◌≡◌, ℕ, zero, suc, ◌<◌, ◌≤◌, Lis
 use Rattle.std.specs.Prelude.{nat_lt}
 use Rattle.std.proofs.lemmas.List.{take-append-le, drop-append-le}
 use Rattle.std.proofs.lemmas.Bool.{cases_lt, cond-true, cond-false, lt-ltb, le-ltb}
+use Rattle.giop_messages.specs.declared.heads.TheConstants.{HEAD_LENGTH}
 use Rattle.giop_messages.specs.declared.heads.Head.{Head}
 use Rattle.giop_stream.specs.declared.faults.StreamFault.{StreamFault}
 use Rattle.giop_stream.specs.declared.fronts.Front.{Front}
@@ -18,11 +19,11 @@ Stays Partly later = Unit {0}
 Stays (Wrong fault) later = later ≡ Wrong fault
 Stays (Whole h) later = later ≡ Whole h
 
-pub front_short : (bytes : List ℕ) → length bytes < 12 → front bytes ≡ Partly
-front_short bytes h = cond-true (nat_lt (length bytes) 12) Partly (fronted bytes (head_at (take 12 bytes))) (lt-ltb (length bytes) 12 h)
+pub front_short : (bytes : List ℕ) → length bytes < HEAD_LENGTH → front bytes ≡ Partly
+front_short bytes h = cond-true (nat_lt (length bytes) HEAD_LENGTH) Partly (fronted bytes (head_at (take HEAD_LENGTH bytes))) (lt-ltb (length bytes) HEAD_LENGTH h)
 
-pub front_long : (bytes : List ℕ) → 12 ≤ length bytes → front bytes ≡ fronted bytes (head_at (take 12 bytes))
-front_long bytes h = cond-false (nat_lt (length bytes) 12) Partly (fronted bytes (head_at (take 12 bytes))) (le-ltb (length bytes) 12 h)
+pub front_long : (bytes : List ℕ) → HEAD_LENGTH ≤ length bytes → front bytes ≡ fronted bytes (head_at (take HEAD_LENGTH bytes))
+front_long bytes h = cond-false (nat_lt (length bytes) HEAD_LENGTH) Partly (fronted bytes (head_at (take HEAD_LENGTH bytes))) (le-ltb (length bytes) HEAD_LENGTH h)
 
 partly_stays : (bytes more : List ℕ) (x : Front) → x ≡ Partly → Stays x (front (bytes ++ more))
 partly_stays bytes more x e = let P : Front → Type 0 = λ x. Stays x (front (bytes ++ more)) in subst P (sym e) tt
@@ -48,16 +49,16 @@ fronted_stays bytes more (Ok h) =
 front_stays : (bytes more : List ℕ) → Stays (front bytes) (front (bytes ++ more))
 front_stays bytes more =
     ⊎_elim
-    (λ (lt : length bytes < 12). partly_stays bytes more (front bytes) (front_short bytes lt))
-    (λ (le : 12 ≤ length bytes).
+    (λ (lt : length bytes < HEAD_LENGTH). partly_stays bytes more (front bytes) (front_short bytes lt))
+    (λ (le : HEAD_LENGTH ≤ length bytes).
     let P : Front → Front → Type 0 = λ x y. Stays x y in
-    let same : head_at (take 12 (bytes ++ more)) ≡ head_at (take 12 bytes) = ap head_at (take-append-le 12 bytes more le) in
-    let later : front (bytes ++ more) ≡ fronted (bytes ++ more) (head_at (take 12 bytes)) =
+    let same : head_at (take HEAD_LENGTH (bytes ++ more)) ≡ head_at (take HEAD_LENGTH bytes) = ap head_at (take-append-le HEAD_LENGTH bytes more le) in
+    let later : front (bytes ++ more) ≡ fronted (bytes ++ more) (head_at (take HEAD_LENGTH bytes)) =
     front_long (bytes ++ more) (omega (arith, length-append bytes more)) ∙ ap (fronted (bytes ++ more)) same in
     let Q : Front → Type 0 = λ x. Stays x (front (bytes ++ more)) in
-    let R : Front → Type 0 = λ y. Stays (fronted bytes (head_at (take 12 bytes))) y in
-    subst Q (sym (front_long bytes le)) (subst R (sym later) (fronted_stays bytes more (head_at (take 12 bytes)))))
-    (cases_lt (length bytes) 12)
+    let R : Front → Type 0 = λ y. Stays (fronted bytes (head_at (take HEAD_LENGTH bytes))) y in
+    subst Q (sym (front_long bytes le)) (subst R (sym later) (fronted_stays bytes more (head_at (take HEAD_LENGTH bytes)))))
+    (cases_lt (length bytes) HEAD_LENGTH)
 
 abbrev Fits : Front → List ℕ → Type 0
 Fits Partly bytes = Unit {0}
@@ -77,9 +78,9 @@ fits : (bytes : List ℕ) → Fits (front bytes) bytes
 fits bytes =
     let P : Front → Type 0 = λ x. Fits x bytes in
     ⊎_elim
-    (λ (lt : length bytes < 12). subst P (sym (front_short bytes lt)) tt)
-    (λ (le : 12 ≤ length bytes). subst P (sym (front_long bytes le)) (fronted_fits bytes (head_at (take 12 bytes))))
-    (cases_lt (length bytes) 12)
+    (λ (lt : length bytes < HEAD_LENGTH). subst P (sym (front_short bytes lt)) tt)
+    (λ (le : HEAD_LENGTH ≤ length bytes). subst P (sym (front_long bytes le)) (fronted_fits bytes (head_at (take HEAD_LENGTH bytes))))
+    (cases_lt (length bytes) HEAD_LENGTH)
 
 pub front_fits : (bytes : List ℕ) (h : Head) → front bytes ≡ Whole h → total h ≤ length bytes
 front_fits bytes h e = let P : Front → Type 0 = λ x. Fits x bytes in subst P e (fits bytes)

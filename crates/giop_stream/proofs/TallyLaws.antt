@@ -6,8 +6,9 @@ use Rattle.std.proofs.lemmas.List.{map-append, map-set, length-map, append-nil}
 use Rattle.std.proofs.lemmas.Option.{slice_get-map}
 use Rattle.giop_messages.specs.declared.heads.Head.{Head}
 use Rattle.giop_messages.specs.Heads.{more_in}
-use Rattle.giop_messages.specs.declared.heads.TheConstants.{MESSAGE_LIMIT}
+use Rattle.giop_messages.specs.declared.heads.TheConstants.{HEAD_LENGTH, MESSAGE_LIMIT}
 use Rattle.cdr_codec.specs.Orders.{order_of}
+use Rattle.giop_stream.specs.declared.begun.TheConstants.{FRAGMENT_HEAD}
 use Rattle.giop_stream.specs.declared.faults.StreamFault.{StreamFault}
 use Rattle.giop_stream.specs.declared.faults.StreamFault.TheVariants as faults
 use Rattle.giop_stream.specs.declared.tallies.Brief.{Brief}
@@ -30,10 +31,10 @@ gave_agrees os bs (Ok m) e = e
 gave_agrees os bs (Err fault) e = tt
 
 first_agrees : (os : List Begun) (h : Head) (part : List ℕ) (id : ℕ) (again room : Bool)
-    → Agrees (if again then out_of_turn else (if room then Joins (os ++ record { id = id; head = h; payload = drop 12 part; spent = length part } ∷ []) else out_of_turn))
+    → Agrees (if again then out_of_turn else (if room then Joins (os ++ record { id = id; head = h; payload = drop HEAD_LENGTH part; spent = length part } ∷ []) else out_of_turn))
     (if room then briefs os ++ record { id = id; spent = length part } ∷ [] else briefs os)
 first_agrees os h part id true room = tt
-first_agrees os h part id false true = map-append brief os (record { id = id; head = h; payload = drop 12 part; spent = length part } ∷ [])
+first_agrees os h part id false true = map-append brief os (record { id = id; head = h; payload = drop HEAD_LENGTH part; spent = length part } ∷ [])
 first_agrees os h part id false false = tt
 
 begins_agrees : (os : List Begun) (h : Head) (part : List ℕ) (r : Result ℕ StreamFault) → Agrees (begins_by os h part r) (tally_first (briefs os) part r)
@@ -49,23 +50,23 @@ map-remove (o ∷ os) zero = refl
 map-remove (o ∷ os) (suc at) = ap (λ (bs : List Brief). brief o ∷ bs) (map-remove os at)
 
 grows_agrees : (os : List Begun) (at : ℕ) (o : Begun) (part : List ℕ) (large more : Bool)
-    → Agrees (if large then Fails (faults.TooLarge (joined_size o (drop 16 part)))
-    else (if more then Joins (slice_set os at (grown o (drop 16 part))) else completes os at o (drop 16 part)))
+    → Agrees (if large then Fails (faults.TooLarge (joined_size o (drop FRAGMENT_HEAD part)))
+    else (if more then Joins (slice_set os at (grown o (drop FRAGMENT_HEAD part))) else completes os at o (drop FRAGMENT_HEAD part)))
     (if more then slice_set (briefs os) at (counted (brief o) part) else remove (briefs os) at)
 grows_agrees os at o part true more = tt
-grows_agrees os at o part false true = map-set brief os at (grown o (drop 16 part))
-grows_agrees os at o part false false = gave_agrees (remove os at) (remove (briefs os) at) (message_of o.head (o.payload ++ drop 16 part)) (map-remove os at)
+grows_agrees os at o part false true = map-set brief os at (grown o (drop FRAGMENT_HEAD part))
+grows_agrees os at o part false false = gave_agrees (remove os at) (remove (briefs os) at) (message_of o.head (o.payload ++ drop FRAGMENT_HEAD part)) (map-remove os at)
 
 at_agrees : (os : List Begun) (at : ℕ) (more : Bool) (part : List ℕ) (x : Option Begun)
-    → Agrees (grows_at os at more (drop 16 part) x) (tally_at (briefs os) at more part (option_map brief x))
+    → Agrees (grows_at os at more (drop FRAGMENT_HEAD part) x) (tally_at (briefs os) at more part (option_map brief x))
 at_agrees os at more part None = tt
-at_agrees os at more part (Some o) = grows_agrees os at o part (nat_lt MESSAGE_LIMIT (joined_size o (drop 16 part))) more
+at_agrees os at more part (Some o) = grows_agrees os at o part (nat_lt MESSAGE_LIMIT (joined_size o (drop FRAGMENT_HEAD part))) more
 
 placed_agrees : (os : List Begun) (more : Bool) (part : List ℕ) (place : Option ℕ)
-    → Agrees (fragment_at os more (drop 16 part) place) (tally_placed (briefs os) more part place)
+    → Agrees (fragment_at os more (drop FRAGMENT_HEAD part) place) (tally_placed (briefs os) more part place)
 placed_agrees os more part None = tt
 placed_agrees os more part (Some at) =
-    let P : Option Brief → Type 0 = λ b. Agrees (grows_at os at more (drop 16 part) (slice_get os at)) (tally_at (briefs os) at more part b) in
+    let P : Option Brief → Type 0 = λ b. Agrees (grows_at os at more (drop FRAGMENT_HEAD part) (slice_get os at)) (tally_at (briefs os) at more part b) in
     subst P (sym (slice_get-map brief os at)) (at_agrees os at more part (slice_get os at))
 
 places : (id : ℕ) (os : List Begun) → position_or_len (λ (b : Brief). b.id == id) (briefs os) ≡ position_or_len (λ (o : Begun). o.id == id) os
@@ -78,18 +79,18 @@ place_alike id os = simp (places id os, length-map os brief)
 fragment_agrees : (os : List Begun) (more : Bool) (part : List ℕ) (r : Result ℕ StreamFault)
     → Agrees (fragment_by os more part r) (tally_fragment (briefs os) more part r)
 fragment_agrees os more part (Ok id) =
-    let P : Option ℕ → Type 0 = λ place. Agrees (fragment_at os more (drop 16 part) (place_of id os)) (tally_placed (briefs os) more part place) in
+    let P : Option ℕ → Type 0 = λ place. Agrees (fragment_at os more (drop FRAGMENT_HEAD part) (place_of id os)) (tally_placed (briefs os) more part place) in
     subst P (sym (place_alike id os)) (placed_agrees os more part (place_of id os))
 fragment_agrees os more part (Err fault) = tt
 
 by_kind : (os : List Begun) (h : Head) (part : List ℕ) (fragment_sign more_sign : Bool)
     → Agrees (if fragment_sign then fragment_by os (more_in h.flags) part (id_in (order_of h.flags) part)
-    else (if more_sign then begins_by os h part (id_in (order_of h.flags) part) else gave os (message_of h (drop 12 part))))
+    else (if more_sign then begins_by os h part (id_in (order_of h.flags) part) else gave os (message_of h (drop HEAD_LENGTH part))))
     (if fragment_sign then tally_fragment (briefs os) (more_in h.flags) part (id_in (order_of h.flags) part)
     else (if more_sign then tally_first (briefs os) part (id_in (order_of h.flags) part) else briefs os))
 by_kind os h part true more_sign = fragment_agrees os (more_in h.flags) part (id_in (order_of h.flags) part)
 by_kind os h part false true = begins_agrees os h part (id_in (order_of h.flags) part)
-by_kind os h part false false = gave_agrees os (briefs os) (message_of h (drop 12 part)) refl
+by_kind os h part false false = gave_agrees os (briefs os) (message_of h (drop HEAD_LENGTH part)) refl
 
 tally_agrees : (os : List Begun) (h : Head) (part : List ℕ) → Agrees (turn os h part) (tally (briefs os) h part)
 unfolding turn tally

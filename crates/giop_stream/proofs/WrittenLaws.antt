@@ -12,7 +12,7 @@ use Rattle.giop_messages.specs.declared.faults.Why.{Why}
 use Rattle.giop_messages.specs.declared.heads.Head.{Head}
 use Rattle.giop_messages.specs.declared.heads.Kind.{Kind}
 use Rattle.giop_messages.specs.Heads.{flags_fit, head_in, header}
-use Rattle.giop_messages.specs.declared.heads.TheConstants.{MESSAGE_LIMIT}
+use Rattle.giop_messages.specs.declared.heads.TheConstants.{HEAD_LENGTH, MESSAGE_LIMIT}
 use Rattle.giop_messages.specs.Messages.{kind_in}
 use Rattle.giop_messages.specs.Writing.{written_payload}
 use Rattle.giop_messages.specs.Laws.{MessagesAreReadBack}
@@ -27,41 +27,41 @@ use Rattle.giop_stream.proofs.SpelledLaws.{Laws, sign_fits, sign_small, sized_he
 
 -- ---- a header that announces no fragments, and what stands behind it
 
-pub framed_is : (order : Order) (kind : Kind) (size : ℕ) → 12 + size ≤ MESSAGE_LIMIT → framed (sized_head order kind size) ≡ Ok (sized_head order kind size)
-framed_is Big kind size h = cond-false (nat_lt MESSAGE_LIMIT (12 + size)) _ _ (le-ltb MESSAGE_LIMIT (12 + size) h)
-framed_is Little kind size h = cond-false (nat_lt MESSAGE_LIMIT (12 + size)) _ _ (le-ltb MESSAGE_LIMIT (12 + size) h)
+pub framed_is : (order : Order) (kind : Kind) (size : ℕ) → HEAD_LENGTH + size ≤ MESSAGE_LIMIT → framed (sized_head order kind size) ≡ Ok (sized_head order kind size)
+framed_is Big kind size h = cond-false (nat_lt MESSAGE_LIMIT (HEAD_LENGTH + size)) _ _ (le-ltb MESSAGE_LIMIT (HEAD_LENGTH + size) h)
+framed_is Little kind size h = cond-false (nat_lt MESSAGE_LIMIT (HEAD_LENGTH + size)) _ _ (le-ltb MESSAGE_LIMIT (HEAD_LENGTH + size) h)
 
 head_at_is : (bytes : List ℕ) (h : Head) → head_in bytes ≡ Ok h → framed h ≡ Ok h → head_at bytes ≡ Ok h
 unfolding head_at
 head_at_is bytes h read fits = ap (λ (r : Result Head (Fault Why)). framed_by (told r)) read ∙ fits
 
 -- this header is judged at the front of the bytes that begin with it
-pub front_of_written : Laws → (h : Head) (payload : List ℕ) → length (header.written Big 0 h) ≡ 12 → h.flags < 256 → h.size ≡ length payload
+pub front_of_written : Laws → (h : Head) (payload : List ℕ) → length (header.written Big 0 h) ≡ HEAD_LENGTH → h.flags < 256 → h.size ≡ length payload
     → total h ≤ MESSAGE_LIMIT → framed h ≡ Ok h → front (header.written Big 0 h ++ payload) ≡ Whole h
 front_of_written laws h payload long flags size small fits =
     let head = header.written Big 0 h in
     let whole : length (head ++ payload) ≡ total h = omega (arith, length-append head payload) in
     let alone : head_in head ≡ Ok h = ap head_in (sym (append-nil head)) ∙ laws.headers h [] flags (omega arith) in
-    let at : head_at (take 12 (head ++ payload)) ≡ Ok h = ap head_at (take_at head payload 12 long) ∙ head_at_is head h alone fits in
+    let at : head_at (take HEAD_LENGTH (head ++ payload)) ≡ Ok h = ap head_at (take_at head payload HEAD_LENGTH long) ∙ head_at_is head h alone fits in
     front_long (head ++ payload) (omega arith) ∙ ap (fronted (head ++ payload)) at ∙ whole_stays (head ++ payload) h (omega arith)
 
 -- ---- one message
 
 whole_turn : (os : List Begun) (order : Order) (kind : Kind) (size : ℕ) (part : List ℕ) (m : Received) → is_fragment kind ≡ false
-    → message_of (sized_head order kind size) (drop 12 part) ≡ Ok m → turn os (sized_head order kind size) part ≡ Gives m os
+    → message_of (sized_head order kind size) (drop HEAD_LENGTH part) ≡ Ok m → turn os (sized_head order kind size) part ≡ Gives m os
 unfolding turn
 whole_turn os Big kind size part m own read =
-    cond-false (is_fragment kind) (fragment os (sized_head Big kind size) part) (gave os (message_of (sized_head Big kind size) (drop 12 part))) own ∙ ap (gave os) read
+    cond-false (is_fragment kind) (fragment os (sized_head Big kind size) part) (gave os (message_of (sized_head Big kind size) (drop HEAD_LENGTH part))) own ∙ ap (gave os) read
 whole_turn os Little kind size part m own read =
-    cond-false (is_fragment kind) (fragment os (sized_head Little kind size) part) (gave os (message_of (sized_head Little kind size) (drop 12 part))) own ∙ ap (gave os) read
+    cond-false (is_fragment kind) (fragment os (sized_head Little kind size) part) (gave os (message_of (sized_head Little kind size) (drop HEAD_LENGTH part))) own ∙ ap (gave os) read
 
-pub message_of_written : Laws → MessagesAreReadBack → (m : Received) (h : Head) → IsWritable m → flags_fit h ≡ true → length (written m) ≡ 12 + h.size
-    → head_in (written m) ≡ Ok h → message_of h (drop 12 (written m)) ≡ Ok m
+pub message_of_written : Laws → MessagesAreReadBack → (m : Received) (h : Head) → IsWritable m → flags_fit h ≡ true → length (written m) ≡ HEAD_LENGTH + h.size
+    → head_in (written m) ≡ Ok h → message_of h (drop HEAD_LENGTH (written m)) ≡ Ok m
 unfolding message_of
 message_of_written laws back m h w fits long read =
-    let behind : h.size ≡ length (drop 12 (written m)) = omega (arith, long, length-drop 12 (written m)) in
+    let behind : h.size ≡ length (drop HEAD_LENGTH (written m)) = omega (arith, long, length-drop HEAD_LENGTH (written m)) in
     ap (λ (r : Result Received (Fault Why)). told r)
-    (sym (laws.fields (written m) (drop 12 (written m)) h read fits refl behind (omega (arith, long))) ∙ back m.0 m.1 w.numbered w.writable)
+    (sym (laws.fields (written m) (drop HEAD_LENGTH (written m)) h read fits refl behind (omega (arith, long))) ∙ back m.0 m.1 w.numbered w.writable)
 
 -- one written message before others, where nothing or anything is begun
 pub written_first : Laws → MessagesAreReadBack → (os : List Begun) (m : Received) (more : List ℕ) → IsWritable m
@@ -69,7 +69,7 @@ pub written_first : Laws → MessagesAreReadBack → (os : List Begun) (m : Rece
 written_first laws back os m more w =
     let payload = written_payload m.1 m.0 in
     let h = sized_head m.1 (kind_in m.0) (length payload) in
-    let long : length (header.written Big 0 h) ≡ 12 = twelve m.1 (kind_in m.0) (length payload) in
+    let long : length (header.written Big 0 h) ≡ HEAD_LENGTH = twelve m.1 (kind_in m.0) (length payload) in
     let whole : length (written m) ≡ total h = omega (arith, length-append (header.written Big 0 h) payload) in
     let small : total h ≤ MESSAGE_LIMIT = omega (arith, w.writable.sized) in
     let at : front (written m) ≡ Whole h =

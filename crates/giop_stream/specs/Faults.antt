@@ -1,5 +1,5 @@
 -- Faults of a link.
-use Rattle.std.specs.Prelude.{◌≡◌, Result, Ok, Err}
+use Rattle.std.specs.Prelude.{Option, Some, None, Result, Ok, Err}
 use Rattle.cdr_codec.specs.Reading.{Fault}
 use Rattle.giop_messages.specs.declared.faults.Why.{Why}
 use Rattle.giop_messages.specs.declared.faults.ReadFault.{ReadFault}
@@ -16,15 +16,8 @@ abbrev pub told : {X : Type 0} → Result X (Fault Why) → Result X StreamFault
 told (Ok x) = Ok x
 told (Err wrong) = Err (faults.Malformed wrong.why wrong.place)
 
--- a fact of each fault but want of memory
-abbrev pub OnFault : StreamFault → Type 0 → Type 0
-OnFault (faults.Malformed why place) P = P
-OnFault (faults.TooLarge size) P = P
-OnFault faults.NoMemory P = Unit {0}
-
--- the call answered what stands there, or its fault; nothing is said of want of memory
-abbrev pub Answers : {X : Type 0} → Result X StreamFault → Result X StreamFault → Type 0
-Answers (Ok x) what = what ≡ Ok x
-Answers (Err (faults.Malformed why place)) what = what ≡ Err (faults.Malformed why place)
-Answers (Err (faults.TooLarge size)) what = what ≡ Err (faults.TooLarge size)
-Answers (Err faults.NoMemory) what = Unit {0}
+-- a fault of the link; none for want of memory
+abbrev pub link_fault : StreamFault → Option StreamFault
+link_fault (faults.Malformed why place) = Some (faults.Malformed why place)
+link_fault (faults.TooLarge size) = Some (faults.TooLarge size)
+link_fault faults.NoMemory = None

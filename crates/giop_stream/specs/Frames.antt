@@ -2,7 +2,8 @@
 use Rattle.std.specs.Prelude.{◌≡◌, ◌≤◌, ◌<◌, ◌+◌, ℕ, List, [], ◌∷◌, ◌++◌, length, Option, Some, None, Result, Ok, Err}
 use Rattle.giop_messages.specs.declared.heads.Head.{Head}
 use Rattle.giop_stream.specs.declared.faults.StreamFault.{StreamFault}
-use Rattle.giop_stream.specs.Faults.{OnFault}
+use Rattle.cdr_codec.specs.Calls.{OnFault}
+use Rattle.giop_stream.specs.Faults.{link_fault}
 use Rattle.giop_stream.specs.Fronts.{needed, judged_front, IsJudgedAt}
 use Rattle.giop_stream.specs.Parts.{Received, Begun}
 use Rattle.giop_stream.specs.Streams.{Streamed, Rest, Stops, behind, stops, stream_on, stream}
@@ -55,7 +56,7 @@ EndsWith fed given fault = (more : List ℕ) → stream (fed ++ more) ≡ record
 abbrev pub HasNext : Result (Option Received) StreamFault → List ℕ → List Received → Frames → Type 0
 HasNext (Ok (Some m)) fed given new = Stands new fed (given ++ m ∷ [])
 HasNext (Ok None) fed given new = Stands new fed given × ((n : ℕ) × (stream fed ≡ record { messages = given; end = Rest n }))
-HasNext (Err fault) fed given new = Stands new fed given × OnFault fault (EndsWith fed given fault)
+HasNext (Err fault) fed given new = Stands new fed given × OnFault (link_fault fault) (EndsWith fed given fault)
 
 -- with a message, fewer bytes are left
 abbrev pub Shortens : Result (Option Received) StreamFault → Frames → Frames → Type 0
@@ -87,4 +88,4 @@ with_piece f piece = piece_kept f piece f.stopped
 abbrev pub Keeps : Result (Option Received) StreamFault → Frames → Type 0
 Keeps (Ok (Some m)) new = new.used ≤ length new.rest
 Keeps (Ok None) new = (new.stopped ≡ None) × (new.used ≡ 0) × (new.head ≡ judged_front new.rest)
-Keeps (Err fault) new = OnFault fault (new ≡ stopped_at fault)
+Keeps (Err fault) new = OnFault (link_fault fault) (new ≡ stopped_at fault)

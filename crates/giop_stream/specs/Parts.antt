@@ -12,9 +12,11 @@ use Rattle.giop_messages.specs.declared.heads.TheConstants.{HEAD_LENGTH, MESSAGE
 use Rattle.cdr_codec.specs.Orders.{order_of}
 use Rattle.giop_messages.specs.Fields.{request_id}
 use Rattle.giop_messages.specs.Messages.{fields_in}
+use Rattle.giop_stream.specs.declared.begun.TheConstants.{BEGUN_LIMIT, FRAGMENT_HEAD}
 use Rattle.giop_stream.specs.declared.faults.StreamFault.{StreamFault}
 use Rattle.giop_stream.specs.declared.faults.StreamFault.TheVariants as faults
-use Rattle.giop_stream.specs.Faults.{told, OnFault}
+use Rattle.cdr_codec.specs.Calls.{OnFault}
+use Rattle.giop_stream.specs.Faults.{told, link_fault}
 
 -- a message and its byte order
 abbrev pub Received : Type 0
@@ -41,7 +43,7 @@ pub record Begun : Type 0 where
 
 -- the most messages that are begun at once
 abbrev pub begun_limit : ℕ
-begun_limit = 8
+begun_limit = BEGUN_LIMIT
 
 -- a number of bytes, as far as it is counted
 abbrev pub capped : ℕ → ℕ
@@ -53,7 +55,7 @@ place_of id os = position (λ (o : Begun). o.id == id) os
 
 -- with the rest of one more fragment; its header and id are 16 bytes
 abbrev pub grown : Begun → List ℕ → Begun
-grown o rest = record { id = o.id; head = o.head; payload = o.payload ++ rest; spent = capped (o.spent + (16 + length rest)) }
+grown o rest = record { id = o.id; head = o.head; payload = o.payload ++ rest; spent = capped (o.spent + (FRAGMENT_HEAD + length rest)) }
 
 -- the number of bytes of the joined message, with its header, where this rest comes behind a begun one
 abbrev pub joined_size : Begun → List ℕ → ℕ
@@ -107,7 +109,7 @@ fragment_at os more rest None = out_of_turn
 fragment_at os more rest (Some at) = grows_at os at more rest (slice_get os at)
 
 abbrev pub fragment_by : List Begun → Bool → List ℕ → Result ℕ StreamFault → Turn
-fragment_by os more part (Ok id) = fragment_at os more (drop 16 part) (place_of id os)
+fragment_by os more part (Ok id) = fragment_at os more (drop FRAGMENT_HEAD part) (place_of id os)
 fragment_by os more part (Err fault) = Fails fault
 
 abbrev pub fragment : List Begun → Head → List ℕ → Turn
@@ -136,4 +138,4 @@ turn os h part =
 abbrev pub Turned : Result (Option Received) StreamFault → List Begun → Turn → List Begun → Type 0
 Turned (Ok None) old t new = t ≡ Joins new
 Turned (Ok (Some m)) old t new = t ≡ Gives m new
-Turned (Err fault) old t new = (new ≡ old) × OnFault fault (t ≡ Fails fault)
+Turned (Err fault) old t new = (new ≡ old) × OnFault (link_fault fault) (t ≡ Fails fault)

@@ -6,7 +6,8 @@ use Rattle.giop_stream.specs.declared.faults.StreamFault.TheVariants as faults
 use Rattle.giop_stream.specs.declared.framers.Step.{Step}
 use Rattle.giop_stream.specs.declared.framers.Step.TheVariants as steps
 use Rattle.giop_stream.specs.declared.fronts.Front.TheVariants.{Partly}
-use Rattle.giop_stream.specs.Faults.{OnFault}
+use Rattle.cdr_codec.specs.Calls.{OnFault}
+use Rattle.giop_stream.specs.Faults.{link_fault}
 use Rattle.giop_stream.specs.Fronts.{total, front, judged_front}
 use Rattle.giop_stream.specs.Parts.{Received, Joins, Gives, Fails, turn}
 use Rattle.giop_stream.specs.Frames.{Frames, Passes, stopped_at}
@@ -31,7 +32,7 @@ Took (Ok None) f h g =
     (turn f.begun h (take (total h) f.rest) ≡ Joins g.begun) × (g.rest ≡ drop (total h) f.rest) × (g.stopped ≡ f.stopped)
 Took (Ok (Some m)) f h g =
     (turn f.begun h (take (total h) f.rest) ≡ Gives m g.begun) × (g.rest ≡ drop (total h) f.rest) × (g.stopped ≡ f.stopped) × (g.used ≤ length g.rest)
-Took (Err fault) f h g = (g ≡ f) × OnFault fault (turn f.begun h (take (total h) f.rest) ≡ Fails fault)
+Took (Err fault) f h g = (g ≡ f) × OnFault (link_fault fault) (turn f.begun h (take (total h) f.rest) ≡ Fails fault)
 
 abbrev pub IsLess : Frames → Frames → Type 0
 IsLess g f = length g.rest < length f.rest
@@ -40,7 +41,7 @@ abbrev pub Stepped : Result Step StreamFault → Frames → Frames → Type 0
 Stepped (Ok steps.Waits) f g = (g ≡ waiting f) × (front f.rest ≡ Partly)
 Stepped (Ok steps.Joins) f g = Passes f g [] × (g.stopped ≡ None) × IsLess g f
 Stepped (Ok (steps.Gives m)) f g = Passes f g (m ∷ []) × IsLess g f × (g.used ≤ length g.rest)
-Stepped (Err fault) f g = Passes f g [] × OnFault fault (g ≡ stopped_at fault)
+Stepped (Err fault) f g = Passes f g [] × OnFault (link_fault fault) (g ≡ stopped_at fault)
 
 -- bytes are missing of what is begun at the front, and nothing is to be done
 pub record Needs (f : Frames) : Type 0 where
@@ -56,4 +57,4 @@ IsWaiting g = (g.stopped ≡ None) × (g.used ≡ 0) × (g.head ≡ judged_front
 abbrev pub Advances : Result (Option Received) StreamFault → Frames → Frames → Type 0
 Advances (Ok (Some m)) f g = Passes f g (m ∷ []) × IsLess g f × (g.used ≤ length g.rest)
 Advances (Ok None) f g = Passes f g [] × (front g.rest ≡ Partly) × IsWaiting g
-Advances (Err fault) f g = Passes f g [] × OnFault fault (g ≡ stopped_at fault)
+Advances (Err fault) f g = Passes f g [] × OnFault (link_fault fault) (g ≡ stopped_at fault)

@@ -4,6 +4,7 @@ use Rattle.std.specs.Prelude.{◌≡◌, ℕ, ◌+◌, ◌==◌, nat_lt, if◌th
 use Rattle.giop_messages.specs.declared.heads.Head.{Head}
 use Rattle.giop_messages.specs.Heads.{more_in}
 use Rattle.cdr_codec.specs.Orders.{order_of}
+use Rattle.giop_stream.specs.declared.begun.TheConstants.{FRAGMENT_HEAD}
 use Rattle.giop_stream.specs.declared.faults.StreamFault.{StreamFault}
 use Rattle.giop_stream.specs.declared.tallies.Brief.{Brief}
 use Rattle.giop_stream.specs.Parts.{Begun, begun_limit, capped, id_in, is_fragment}
@@ -24,7 +25,7 @@ spent_by bs = sum_by (λ (b : Brief). b.spent) bs
 
 -- with one more fragment
 abbrev pub counted : Brief → List ℕ → Brief
-counted b part = record { id = b.id; spent = capped (b.spent + (16 + length (drop 16 part))) }
+counted b part = record { id = b.id; spent = capped (b.spent + (FRAGMENT_HEAD + length (drop FRAGMENT_HEAD part))) }
 
 abbrev pub tally_at : List Brief → ℕ → Bool → List ℕ → Option Brief → List Brief
 tally_at bs at more part None = bs

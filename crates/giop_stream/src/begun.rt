@@ -1,6 +1,7 @@
 //! The messages whose last fragment has not come.
 ghost use Rattle.std.specs.Prelude.{◌≡◌, ◌≤◌, ◌<◌, ◌+◌, ◌==◌, ℕ, [], ◌∷◌, ◌++◌, length, drop, remove, slice_get, slice_set, Some, vec_len, IfOk, IfSome, OnOk, OnErr};
-ghost use Rattle.giop_stream.specs.Faults.{Answers};
+ghost use Rattle.cdr_codec.specs.Calls.{Tells};
+ghost use Rattle.giop_stream.specs.Faults.{link_fault};
 ghost use Rattle.giop_stream.specs.Parts.{Begun, begun_limit, place_of, grown, joined_size, id_in, message_of, is_fragment, Joins, begins, completes, grows_at, fragment, turn, Turned};
 ghost use Rattle.giop_stream.specs.Tallies.{brief, briefs};
 
@@ -48,7 +49,7 @@ impl Model for Opened {
 #[tactic(auto, unfolding(crate::specs::Parts::message_of))]
 fn read_whole(alloc: Global, head: Head, payload: &[u8]) -> Result<(Message, Order), StreamFault>
     requires { length payload.now ≤ MESSAGE_LIMIT }
-    ensures { Answers result (message_of head payload.now) }
+    ensures { Tells (λ m. m) link_fault result (message_of head payload.now) }
 {
     let message = read_fields(alloc, head, payload)?;
     Ok(message)
@@ -116,7 +117,7 @@ impl Opened {
     /// The whole message, which this rest ends. The rest is appended only while the message is read.
     fn join(&mut self, alloc: Global, rest: &[u8]) -> Result<(Message, Order), StreamFault>
         requires { joined_size self.old rest.now ≤ MESSAGE_LIMIT }
-        ensures value { Answers result (message_of self.old.head (self.old.payload ++ rest.now)) }
+        ensures value { Tells (λ m. m) link_fault result (message_of self.old.head (self.old.payload ++ rest.now)) }
         ensures same { self.new ≡ self.old }
     {
         let length = self.payload.len();
@@ -140,7 +141,7 @@ pub fn read_id(order: Order, part: &[u8]) -> Result<u32, StreamFault>
     requires long { HEAD_LENGTH ≤ length part.now }
     requires small { length part.now ≤ MESSAGE_LIMIT }
     ensures value { result ≡ id_in order part.now }
-    ensures room { IfOk result (λ _. 16 ≤ length part.now) }
+    ensures room { IfOk result (λ _. FRAGMENT_HEAD ≤ length part.now) }
 {
     let mut reader = CdrReader::new(order, HEAD_LENGTH as u32, &part[HEAD_LENGTH..]);
     match reader.read_u32() {
@@ -157,8 +158,8 @@ pub fn read_id(order: Order, part: &[u8]) -> Result<u32, StreamFault>
 
 /// What a fragment adds.
 fn rest_of(part: &[u8]) -> &[u8]
-    requires { 16 ≤ length part.now }
-    ensures { result.now ≡ drop 16 part.now }
+    requires { FRAGMENT_HEAD ≤ length part.now }
+    ensures { result.now ≡ drop FRAGMENT_HEAD part.now }
 {
     &part[FRAGMENT_HEAD..]
 }
@@ -275,7 +276,7 @@ impl Partials {
     ) -> Result<(Message, Order), StreamFault>
         requires within { at < length self.old }
         requires fits { (o : Begun) → slice_get self.old at ≡ Some o → joined_size o rest.now ≤ MESSAGE_LIMIT }
-        ensures value { (o : Begun) → slice_get self.old at ≡ Some o → Answers result (message_of o.head (o.payload ++ rest.now)) }
+        ensures value { (o : Begun) → slice_get self.old at ≡ Some o → Tells (λ m. m) link_fault result (message_of o.head (o.payload ++ rest.now)) }
         ensures same { self.new ≡ self.old }
     {
         let begun = &mut self.items[at];

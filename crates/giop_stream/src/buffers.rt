@@ -104,7 +104,11 @@ impl Buffer {
         ensures ok { OnOk result (self.new ≡ record { unused = self.old.unused ++ piece.now; used = self.old.used }) }
         ensures err { OnErr result (self.new ≡ self.old) }
     {
-        self.bytes.extend_from_slice(piece)?;
+        // one byte alone costs no call of a copy
+        match piece {
+            [byte] => self.bytes.push(*byte)?,
+            _ => self.bytes.extend_from_slice(piece)?,
+        }
         Ok(())
     }
 }

@@ -3,6 +3,7 @@ ghost use Rattle.std.specs.Prelude.{◌≡◌, ◌≤◌, ◌<◌, ◌+◌, nat_
 ghost use Rattle.giop_messages.specs.Heads.{more_in};
 ghost use Rattle.giop_messages.specs.declared.heads.TheConstants.{MESSAGE_LIMIT};
 ghost use Rattle.cdr_codec.specs.Orders.{order_of};
+ghost use Rattle.giop_stream.specs.declared.begun.TheConstants.{FRAGMENT_HEAD};
 ghost use Rattle.giop_stream.specs.Parts.{begun_limit, capped, id_in};
 ghost use Rattle.giop_stream.specs.Tallies.{brief_place, spent_by, tally_at, tally_fragment, tally_first, tally, Left};
 
@@ -111,7 +112,7 @@ impl Tally {
 
     fn grow(&mut self, at: usize, more: bool, part: &[u8])
         requires within { at < length self.old }
-        requires long { 16 ≤ length part.now }
+        requires long { FRAGMENT_HEAD ≤ length part.now }
         requires small { length part.now ≤ MESSAGE_LIMIT }
         ensures { self.new ≡ tally_at self.old at more part.now (slice_get self.old at) }
     {

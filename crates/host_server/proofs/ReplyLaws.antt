@@ -5,7 +5,7 @@ use Rattle.ft_base.specs.Canonical.{padding}
 use Rattle.ft_base.specs.declared.requests.Outcome.TheVariants.{Value, User}
 use Rattle.cdr_codec.specs.declared.orders.Order.{Order}
 use Rattle.cdr_codec.specs.declared.orders.Order.TheVariants.{Big, Little}
-use Rattle.giop_messages.specs.declared.heads.TheConstants.{HEAD_LENGTH}
+use Rattle.giop_messages.specs.declared.heads.TheConstants.{HEAD_LENGTH, MESSAGE_LIMIT}
 use Rattle.giop_messages.specs.declared.heads.Kind.TheVariants as kinds
 use Rattle.giop_messages.specs.declared.messages.Message.TheVariants as messages
 use Rattle.giop_messages.specs.declared.messages.ReplyMsg.{ReplyMsg}
@@ -22,7 +22,7 @@ reply_headed Big size = refl
 reply_headed Little size = refl
 
 -- the fields of a Reply without contexts
-fields_length : (order : Order) (id status : ℕ) → length (reply_head.written order 12 (record { id = id; status = status; contexts = [] })) ≡ 12
+fields_length : (order : Order) (id status : ℕ) → length (reply_head.written order HEAD_LENGTH (record { id = id; status = status; contexts = [] })) ≡ 12
 fields_length Big id status = refl
 fields_length Little id status = refl
 
@@ -35,10 +35,10 @@ a_reply id status order bytes =
     record { id = id; status = status; contexts = []; body = record { order = order; align = 0; bytes = bytes } }
 
 reply_sized : (id status : ℕ) (order : Order) (bytes : List ℕ) → IsShortBody bytes
-    → length (written_message (messages.Reply (a_reply id status order bytes)) order) ≤ 1048576
+    → length (written_message (messages.Reply (a_reply id status order bytes)) order) ≤ MESSAGE_LIMIT
 reply_sized id status order bytes h =
-    let front = reply_head.written order 12 (head_of_reply (a_reply id status order bytes)) in
-    let body = padded_body (12 + length front) bytes in
+    let front = reply_head.written order HEAD_LENGTH (head_of_reply (a_reply id status order bytes)) in
+    let body = padded_body (HEAD_LENGTH + length front) bytes in
     let size = length (front ++ body) in
     omega (
       arith,
@@ -46,7 +46,7 @@ reply_sized id status order bytes h =
       length-append front body,
       reply_headed order size,
       fields_length order id status,
-      body_length (12 + length front) bytes,
+      body_length (HEAD_LENGTH + length front) bytes,
       h,
     )
 

@@ -1,6 +1,6 @@
 use Rattle.std.proofs.Common.{◌≡◌, ◌*◌, ◌≤◌, length, take}
 use Rattle.std.specs.Prelude.{sum_by}
-use Rattle.group_core.specs.Group.{Group}
+use Rattle.lone_group.specs.Group.{Group}
 use Rattle.ft_world.proofs.worlds.entries_of.Given as goal
 
 -- the entries of the groups so far

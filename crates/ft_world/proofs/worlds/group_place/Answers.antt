@@ -1,7 +1,7 @@
 use Rattle.std.proofs.Common.{ap, arith, sym, ◌∙◌}
 use Rattle.std.specs.Prelude.{List, ℕ}
 use Rattle.std.specs.Str.{bytes_eq}
-use Rattle.group_core.specs.Group.{Group}
+use Rattle.lone_group.specs.Group.{Group}
 use Rattle.ft_world.proofs.PlaceLemmas.{found_here}
 use Rattle.ft_world.proofs.worlds.group_place.Goals as goal
 

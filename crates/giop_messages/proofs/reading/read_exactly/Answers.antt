@@ -3,6 +3,7 @@ use Rattle.cdr_codec.specs.declared.orders.Order.{Order}
 use Rattle.cdr_codec.specs.declared.orders.Order.TheVariants.{Big}
 use Rattle.cdr_codec.specs.Reading.{Reader, reader_at, Fault}
 use Rattle.cdr_codec.specs.Calls.{Tells}
+use Rattle.giop_messages.specs.declared.heads.TheConstants.{HEAD_LENGTH}
 use Rattle.giop_messages.specs.declared.faults.Why.{Why}
 use Rattle.giop_messages.specs.declared.messages.Message.{Message}
 use Rattle.giop_messages.specs.Faults.{read_fault}
@@ -13,7 +14,7 @@ abbrev judged_if : List ℕ → Bool → Result (Message × Order) (Fault Why)
 judged_if bytes short = cond {A = Result (Message × Order) (Fault Why)} short (Err (cut bytes)) (headed bytes (reader_at Big 0 bytes))
 
 -- the header is whole
-whole : (bytes : List ℕ) (r : Reader) → 12 ≤ length bytes → r ≡ reader_at Big 0 bytes → headed bytes r ≡ message_in bytes
+whole : (bytes : List ℕ) (r : Reader) → HEAD_LENGTH ≤ length bytes → r ≡ reader_at Big 0 bytes → headed bytes r ≡ message_in bytes
 whole bytes r long begins = ap (headed bytes) begins ∙ sym (ap (judged_if bytes) (le-ltb _ _ long))
 
 pub returns : goal.returns

@@ -1,6 +1,6 @@
 use Rattle.std.proofs.Common.{◌∙◌, ap}
-use Rattle.group_core.specs.Group.{Group}
-use Rattle.group_core.specs.Asked.{asked_of}
+use Rattle.lone_group.specs.Group.{Group}
+use Rattle.lone_group.specs.Asked.{asked_of}
 use Rattle.ft_world.proofs.AskingLemmas.{ask_fails, asked_short, asks_did, can_reply, got}
 use Rattle.ft_world.proofs.worlds.World.ask_at.Goals as goal
 
