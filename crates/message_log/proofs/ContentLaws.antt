@@ -1,5 +1,5 @@
 -- Records are read one by one.
-use Rattle.std.proofs.Common.{◌≡◌, Bool, true, false, true≢false, ◌<◌, cond, subst, ◌++◌, eqb, ℕ, zero, suc, ◌+◌, ◌≤◌, List, [], ◌∷◌, length, Option, Some, None, Result, Ok, Err, refl, sym, ap, ◌∙◌, add-one, arith}
+use Rattle.std.proofs.Common.{◌≡◌, Bool, true, false, true≢false, ◌<◌, ℕ, zero, suc, ◌+◌, ◌≤◌, List, [], ◌∷◌, length, Option, Some, None, Ok, Err, refl, sym, ap, ◌∙◌, add-one, arith}
 use Rattle.std.specs.Prelude.{drop, slice_get, is_some}
 use Rattle.message_log.specs.Opening.{Content, content_from, after_piece, and_then, with_view_or}
 use Rattle.log_records.specs.Records.{record_in}
@@ -12,7 +12,7 @@ use Rattle.reply_table.specs.Entries.{unanswered, joined}
 use Rattle.reply_table.specs.declared.entries.Retained.{Retained}
 use Rattle.message_log.specs.Opening.{replied, with_retained}
 use Rattle.log_records.specs.Records.{are_rising}
-use Rattle.message_log.proofs.PictureLaws.{below, below_joined, below_answered}
+use Rattle.message_log.proofs.PictureLaws.{below_joined, below_answered}
 
 drop_at : (pieces : List (List ℕ)) (i : ℕ) (piece : List ℕ) → slice_get pieces i ≡ Some piece → drop i pieces ≡ piece ∷ drop (suc i) pieces
 drop_at [] i piece h = absurd cc

@@ -1,10 +1,10 @@
 -- A log goes on standing for a journal: a request joins, a checkpoint cuts, a reply is given.
-use Rattle.std.proofs.Common.{◌≡◌, ℕ, ◌+◌, ◌<◌, ◌≤◌, ◌⊎◌, inl, inr, ⊎_elim, Bool, true, false, cond, true≢false, not, eqb, max, List, [], ◌∷◌, ◌++◌, length, Option, Some, None, refl, sym, ap, subst, ◌∙◌, arith, length-append}
+use Rattle.std.proofs.Common.{◌≡◌, ℕ, ◌<◌, ◌≤◌, ⊎_elim, Bool, true, false, cond, true≢false, not, eqb, max, List, [], ◌∷◌, ◌++◌, length, Option, Some, None, refl, sym, ap, subst, ◌∙◌, arith, length-append}
 use Rattle.std.specs.Prelude.{◌&&◌, drop, slice_get, nat_le, nat_lt}
 use Rattle.std.specs.List.{filter}
 use Rattle.std.proofs.lemmas.Bool.{lt-ltb}
 use Rattle.std.proofs.lemmas.Bool.Decides.{nat_tests}
-use Rattle.ft_base.specs.Journal.{Entry, held, is_held, is_held_by, last_place, IsJournal, CanJoin}
+use Rattle.ft_base.specs.Journal.{Entry, held, is_held, is_held_by, CanJoin}
 use Rattle.ft_base.specs.Laws.{JournalGoesOn}
 use Rattle.ft_base.specs.declared.numbers.Tick.{Tick}
 use Rattle.ft_base.specs.declared.numbers.Version.{Version}
@@ -16,12 +16,12 @@ use Rattle.reply_table.specs.declared.entries.Found.{Found}
 use Rattle.reply_table.specs.declared.entries.Found.TheVariants as founds
 use Rattle.reply_table.specs.declared.entries.Retained.{Retained}
 use Rattle.message_log.specs.Picture.{Picture, length_of}
-use Rattle.message_log.specs.Admission.{by_room, by_found, by_key, unless_deposed, against_entry, against_place, found_in, admitted}
+use Rattle.message_log.specs.Admission.{by_found, by_key, unless_deposed, against_entry, against_place, found_in, admitted}
 use Rattle.message_log.specs.Calls.{with_entry, with_outcome, checkpointed}
 use Rattle.message_log.specs.Standing.{IsRetained, Retains, StandsFor}
 use Rattle.message_log.specs.declared.answers.Admit.{Admit}
-use Rattle.message_log.specs.declared.answers.Admit.TheVariants.{Deposed, Expired, Same, Other, Full, New}
-use Rattle.message_log.proofs.Places.{Passes, last_passes, passes_nowhere, from_filter, to_filter, of_push, push_keeps, push_last, drop_push, drop_all, map_get, get_map}
+use Rattle.message_log.specs.declared.answers.Admit.TheVariants.{Deposed, Expired, New}
+use Rattle.message_log.proofs.Places.{last_passes, passes_nowhere, from_filter, to_filter, of_push, push_keeps, push_last, drop_push, drop_all, map_get, get_map}
 use Rattle.message_log.proofs.StandingLaws.{entry_of, found_agrees, length_stands, upper}
 
 -- ---- what a new request is

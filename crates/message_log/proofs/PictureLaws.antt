@@ -1,5 +1,5 @@
 -- What is true of every log stays true.
-use Rattle.std.proofs.Common.{◌≡◌, ◌⊎◌, inl, inr, ⊎_elim, ℕ, zero, suc, ◌+◌, ◌<◌, ◌≤◌, Bool, true, false, cond, not, leb, eqb, max, List, [], ◌∷◌, ◌++◌, length, Option, Some, None, refl, sym, ap, subst, ◌∙◌, append_assoc, length-append, arith}
+use Rattle.std.proofs.Common.{◌≡◌, ◌⊎◌, inl, inr, ⊎_elim, ℕ, zero, suc, ◌+◌, ◌<◌, ◌≤◌, Bool, true, false, cond, not, eqb, max, List, [], ◌∷◌, ◌++◌, length, Option, Some, None, refl, sym, ap, subst, ◌∙◌, append_assoc, length-append, arith}
 use Rattle.std.specs.Prelude.{drop, slice_get, nat_le, nat_lt}
 use Rattle.std.specs.List.{AllByRecursion, filter, find}
 use Rattle.std.proofs.lemmas.Bool.{eq-eqb, ne_eqb}
@@ -13,13 +13,12 @@ use Rattle.reply_table.specs.Entries.{found, joined, is_call, unexpired, is_unex
 use Rattle.reply_table.specs.declared.entries.Found.{Found}
 use Rattle.reply_table.specs.declared.entries.Found.TheVariants as founds
 use Rattle.reply_table.specs.declared.entries.Retained.{Retained}
-use Rattle.message_log.specs.Picture.{Picture, Reserved, length_of, views_of, view_at, AreNumbered, IsSound}
+use Rattle.message_log.specs.Picture.{Picture, Reserved, length_of, AreNumbered, IsSound}
 use Rattle.message_log.specs.Calls.{reserved_of, IsReady}
 use Rattle.message_log.specs.Opening.{IsOpening}
 use Rattle.message_log.specs.declared.reservations.Reservation.{Reservation}
-use Rattle.message_log.specs.Admission.{admitted, by_room, by_found, by_key, unless_deposed}
-use Rattle.message_log.specs.declared.answers.Admit.{Admit}
-use Rattle.message_log.specs.declared.answers.Admit.TheVariants.{Deposed, Expired, Same, Other, Full, New}
+use Rattle.message_log.specs.Admission.{admitted, by_room, by_found, by_key}
+use Rattle.message_log.specs.declared.answers.Admit.TheVariants.{Deposed, Expired, Full, New}
 
 -- ---- records
 

@@ -1,33 +1,21 @@
 -- A log that stands for a journal says what the whole journal says, and its calls keep it standing.
-use Rattle.std.proofs.Common.{◌≡◌, ℕ, ◌+◌, ◌<◌, ◌≤◌, ◌⊎◌, inl, inr, Bool, true, false, cond, true≢false, not, eqb, leb, ltb, max, List, [], ◌∷◌, ◌++◌, length, Option, Some, None, refl, sym, ap, subst, ◌∙◌, arith, length-drop}
-use Rattle.std.specs.Prelude.{◌&&◌, ◌-◌, drop, slice_get, nat_le, nat_lt, option_map}
-use Rattle.std.specs.List.{filter, find}
+use Rattle.std.proofs.Common.{◌≡◌, ℕ, ◌+◌, ◌<◌, ◌≤◌, Bool, true, false, cond, true≢false, ltb, max, List, length, Option, Some, None, refl, sym, ap, ◌∙◌, arith, length-drop}
+use Rattle.std.specs.Prelude.{◌&&◌, ◌-◌, drop, slice_get, nat_lt, option_map}
 use Rattle.std.specs.Ordering.{int_eq}
 use Rattle.std.specs.Str.{bytes_eq}
-use Rattle.std.proofs.lemmas.Bool.{ltb-true, ltb-false, lt-ltb}
-use Rattle.std.proofs.lemmas.Bool.Decides.{Decides-int_eq, nat_tests}
-use Rattle.std.proofs.lemmas.Option.{slice_get_within}
+use Rattle.std.proofs.lemmas.Bool.{ltb-true, ltb-false}
+use Rattle.std.proofs.lemmas.Bool.Decides.{Decides-int_eq}
 use Rattle.std.proofs.lemmas.Slice.Eq.{bytes_eq-Decides}
-use Rattle.ft_base.specs.Journal.{Entry, held, is_held, is_held_by, last_place, IsJournal, AtMostOnce, NeverFalls, IsOneCall, CanJoin}
-use Rattle.ft_base.specs.Laws.{JournalGoesOn}
-use Rattle.ft_base.specs.declared.numbers.Retention.{Retention}
-use Rattle.ft_base.specs.declared.numbers.Tick.{Tick}
-use Rattle.ft_base.specs.declared.numbers.Version.{Version}
+use Rattle.ft_base.specs.Journal.{Entry, held, is_held, is_held_by, IsJournal, IsOneCall}
 use Rattle.ft_base.specs.declared.requests.Key.{Key}
-use Rattle.ft_base.specs.declared.requests.Outcome.{Outcome}
 use Rattle.ft_base.specs.declared.requests.Request.{Request}
-use Rattle.ft_base.specs.declared.views.View.{View}
-use Rattle.reply_table.specs.Entries.{says_same, holder, against, found, unanswered, is_call, without, joined, is_unexpired, unexpired, answered, with_reply}
-use Rattle.reply_table.specs.declared.entries.Found.{Found}
+use Rattle.reply_table.specs.Entries.{says_same, holder, against, found}
 use Rattle.reply_table.specs.declared.entries.Found.TheVariants as founds
 use Rattle.reply_table.specs.declared.entries.Retained.{Retained}
 use Rattle.message_log.specs.Picture.{Picture, length_of, request_at}
-use Rattle.message_log.specs.Admission.{by_room, by_found, by_key, unless_deposed, against_entry, against_place, found_in, admission, admitted}
-use Rattle.message_log.specs.Calls.{fresh, with_entry, with_outcome, checkpointed}
-use Rattle.message_log.specs.Standing.{IsRetained, Retains, StandsFor}
-use Rattle.message_log.specs.declared.answers.Admit.{Admit}
-use Rattle.message_log.specs.declared.answers.Admit.TheVariants.{Deposed, Expired, Same, Other, Full, New}
-use Rattle.message_log.proofs.Places.{Passes, last_passes, passes_nowhere, found_passes, found_nowhere, from_filter, to_filter, of_push, push_keeps, push_last, drop_push, drop_all, drop_get, map_get, get_map}
+use Rattle.message_log.specs.Admission.{by_key, unless_deposed, against_entry, against_place, found_in, admission, admitted}
+use Rattle.message_log.specs.Standing.{Retains, StandsFor}
+use Rattle.message_log.proofs.Places.{Passes, last_passes, passes_nowhere, found_passes, found_nowhere, drop_get}
 
 -- the entry that a retained one is
 abbrev pub entry_of : Retained → Entry

@@ -4,7 +4,6 @@
 use Rattle.std.specs.Prelude.{ℕ, max, nat_le, nat_lt, if◌then◌else◌, List, length, slice_get, Option, Some, None}
 use Rattle.ft_base.specs.Journal.{Entry, held}
 use Rattle.ft_base.specs.declared.limits.TheConstants.{JOURNAL_LIMIT}
-use Rattle.ft_base.specs.declared.numbers.Version.{Version}
 use Rattle.ft_base.specs.declared.requests.Key.{Key}
 use Rattle.ft_base.specs.declared.requests.Request.{Request}
 use Rattle.reply_table.specs.Entries.{says_same, found}

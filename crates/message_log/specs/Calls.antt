@@ -1,6 +1,5 @@
 -- What a log's calls make of it.
-use Rattle.std.specs.Prelude.{◌≡◌, ℕ, ◌+◌, ◌<◌, max, Bool, true, false, List, [], ◌∷◌, ◌++◌, length, Option, Some, None, option_map, Result, Ok, Err, ◌⊎◌}
-use Rattle.ft_base.specs.Journal.{Entry}
+use Rattle.std.specs.Prelude.{◌≡◌, ℕ, ◌<◌, max, Bool, true, false, List, [], ◌∷◌, ◌++◌, Option, Some, None, Result, Ok, Err}
 use Rattle.ft_base.specs.declared.limits.TheConstants.{VIEW_LIMIT}
 use Rattle.ft_base.specs.declared.numbers.Tick.{Tick}
 use Rattle.ft_base.specs.declared.numbers.Version.{Version}
@@ -10,7 +9,6 @@ use Rattle.ft_base.specs.declared.views.View.{View}
 use Rattle.ft_outside.specs.Outside.{next_count}
 use Rattle.ft_outside.specs.Keeping.{plan_after, IsForetold}
 use Rattle.reply_table.specs.Entries.{unanswered, joined, unexpired, with_reply}
-use Rattle.reply_table.specs.declared.entries.Retained.{Retained}
 use Rattle.log_records.specs.Records.{entry_record, view_record, checkpoint_record}
 use Rattle.log_records.specs.declared.records.Accepted.{Accepted}
 use Rattle.log_records.specs.declared.records.Checkpoint.{Checkpoint}

@@ -1,5 +1,5 @@
 -- The laws of a log that stands for a journal.
-use Rattle.std.specs.Prelude.{◌≡◌, ℕ, ◌<◌, ◌≤◌, max, Bool, List, [], ◌∷◌, ◌++◌, slice_get, option_map, Option}
+use Rattle.std.specs.Prelude.{◌≡◌, ℕ, ◌≤◌, max, Bool, List, [], ◌∷◌, ◌++◌, slice_get, option_map, Option}
 use Rattle.ft_base.specs.Journal.{Entry}
 use Rattle.ft_base.specs.declared.numbers.Tick.{Tick}
 use Rattle.ft_base.specs.declared.numbers.Version.{Version}

@@ -4,3 +4,5 @@ pub mod Calls
 pub mod Standing
 pub mod Laws
 pub mod Opening
+pub mod Written
+pub mod WrittenLaws

@@ -1,12 +1,8 @@
 -- The journal for which a log stands, though it has cut the entries before its mark and has dropped the
 -- replies that expired.
-use Rattle.std.specs.Prelude.{◌≡◌, ℕ, ◌<◌, ◌≤◌, List, [], ◌∷◌, ◌++◌, drop, length, slice_get, Option, Some, None}
+use Rattle.std.specs.Prelude.{◌≡◌, ℕ, ◌<◌, ◌≤◌, List, drop, length, slice_get, Some}
 use Rattle.ft_base.specs.Journal.{Entry, IsJournal}
-use Rattle.ft_base.specs.declared.numbers.Tick.{Tick}
-use Rattle.ft_base.specs.declared.numbers.Version.{Version}
 use Rattle.ft_base.specs.declared.requests.Key.{Key}
-use Rattle.ft_base.specs.declared.requests.Outcome.{Outcome}
-use Rattle.ft_base.specs.declared.requests.Request.{Request}
 use Rattle.reply_table.specs.declared.entries.Retained.{Retained}
 use Rattle.message_log.specs.Picture.{Picture}
 

@@ -1,6 +1,9 @@
-//! The laws of a log that stands for a journal. The functions do nothing: their contracts are facts.
+//! The laws of a log that stands for a journal, and of what its records say of it. The functions do
+//! nothing: their contracts are facts.
 ghost use Rattle.message_log.specs.Laws.{AdmitsAsJournal, LendsJournal, StandsFresh, StandsWithEntry, StandsCut, StandsAnswered};
+ghost use Rattle.message_log.specs.WrittenLaws.{RecordsAreRead, FreshIsWritten, WrittenIsOpened, WrittenIsNotBad, AppendedIsWritten, ViewedIsWritten, CheckpointedIsWritten, CheckpointKeepsReplies, AnsweredIsWritten, RestIsWritten};
 
+use cdr_codec::values_are_read_back;
 use ft_base::requests_join;
 
 /// What a log says of its journal, though it has cut and dropped parts of it.
@@ -17,4 +20,29 @@ pub fn logs_stand_for_journals()
     ensures answered { StandsAnswered }
 {
     requests_join();
+}
+
+/// What is written of a log is read again: each record whose fields are in their ranges, and that is
+/// shorter than 2^32 - 8 bytes.
+pub fn records_are_read_again()
+    ensures { RecordsAreRead }
+{
+    values_are_read_back();
+}
+
+/// A log that is stopped after any of its calls and opened again has the same newest view, the same
+/// entries, mark, time and state, and retains the same requests. Of their replies it has those that
+/// the last checkpoint wrote; what has run since has none until it is run again.
+pub fn logs_are_opened_again()
+    ensures fresh { FreshIsWritten }
+    ensures opened { WrittenIsOpened }
+    ensures not_bad { WrittenIsNotBad }
+    ensures appended { AppendedIsWritten }
+    ensures viewed { ViewedIsWritten }
+    ensures checkpointed { CheckpointedIsWritten }
+    ensures replies { CheckpointKeepsReplies }
+    ensures answered { AnsweredIsWritten }
+    ensures rest { RestIsWritten }
+{
+    records_are_read_again();
 }

@@ -13,5 +13,8 @@ mod tests;
 mod tidying;
 
 pub use answers::{Admit, Appended, LogFault, ReopenFault};
-pub use laws::{logs_say_what_journals_say, logs_stand_for_journals};
+pub use laws::{
+    logs_are_opened_again, logs_say_what_journals_say, logs_stand_for_journals,
+    records_are_read_again,
+};
 pub use logs::Log;

@@ -1,4 +1,4 @@
-use Rattle.std.proofs.Common.{◌≡◌, List, ℕ, [], ◌∷◌, ◌++◌, Bool, false, Option, ap, subst, ◌∙◌}
+use Rattle.std.proofs.Common.{List, ℕ, [], ◌∷◌, ◌++◌, Bool, false, Option, ap, subst, ◌∙◌}
 use Rattle.ft_outside.specs.Keeping.{IsForetold, plan_after}
 use Rattle.message_log.proofs.logs.start.Goals as goal
 

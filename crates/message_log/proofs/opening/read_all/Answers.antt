@@ -1,5 +1,4 @@
-use Rattle.std.proofs.Common.{◌≡◌, ℕ, ◌≤◌, length, Result, Err, ap, sym, ◌∙◌, arith}
-use Rattle.message_log.specs.Opening.{Content}
+use Rattle.std.proofs.Common.{◌≡◌, ℕ, ◌≤◌, length, Err, ap, sym, ◌∙◌, arith}
 use Rattle.message_log.proofs.ContentLaws.{content_goes, content_stops, content_ends, view_there, no_view}
 use Rattle.message_log.proofs.opening.read_all.Goals as goal
 

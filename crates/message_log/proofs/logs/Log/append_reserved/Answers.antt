@@ -1,16 +1,12 @@
-use Rattle.std.proofs.Common.{◌≡◌, ℕ, ◌+◌, ◌<◌, List, [], ◌∷◌, ◌++◌, Option, Some, None, Bool, false, ap, subst, sym, ◌∙◌, arith, refl, max}
+use Rattle.std.proofs.Common.{◌≡◌, ℕ, ◌+◌, ◌<◌, List, [], ◌∷◌, ◌++◌, Some, ap, subst, sym, ◌∙◌, arith, max}
 use Rattle.std.specs.Prelude.{vec_len, vec_capacity, length}
 use Rattle.ft_base.specs.Journal.{Entry}
 use Rattle.ft_base.specs.declared.limits.TheConstants.{JOURNAL_LIMIT}
-use Rattle.ft_base.specs.declared.numbers.Tick.{Tick}
-use Rattle.ft_base.specs.declared.requests.Request.{Request}
-use Rattle.ft_outside.specs.Keeping.{IsForetold, plan_after}
 use Rattle.reply_table.specs.Entries.{Table, joined, unanswered}
 use Rattle.reply_table.specs.declared.entries.Retained.{Retained}
 use Rattle.message_log.specs.Picture.{Picture, Reserved, IsSound, HasRoom, length_of}
 use Rattle.log_records.specs.Records.{entry_record}
-use Rattle.message_log.specs.Calls.{IsReady, reserved_of}
-use Rattle.log_records.specs.declared.records.Accepted.{Accepted}
+use Rattle.message_log.specs.Calls.{reserved_of}
 use Rattle.message_log.proofs.PictureLaws.{sound_appended, ready_none, ready_some, taken_is, new_has_room}
 use Rattle.message_log.proofs.logs.Log.append_reserved.Goals as goal
 

@@ -1,9 +1,9 @@
-use Rattle.std.proofs.Common.{◌≡◌, ℕ, ◌+◌, ◌<◌, List, [], ◌∷◌, ◌++◌, Option, Some, None, Bool, false, ap, subst, sym, ◌∙◌, arith, refl, max}
+use Rattle.std.proofs.Common.{◌≡◌, ℕ, ◌+◌, List, [], Option, Some, None, Bool, false, ap, subst, sym, ◌∙◌, max}
 use Rattle.std.specs.Prelude.{vec_len, length}
-use Rattle.ft_outside.specs.Keeping.{IsForetold, plan_after}
+use Rattle.ft_outside.specs.Keeping.{IsForetold}
 use Rattle.reply_table.specs.Entries.{Table, unexpired}
 use Rattle.reply_table.specs.declared.entries.Retained.{Retained}
-use Rattle.message_log.specs.Picture.{Picture, IsSound, length_of}
+use Rattle.message_log.specs.Picture.{IsSound, length_of}
 use Rattle.log_records.specs.Records.{checkpoint_record, view_record}
 use Rattle.message_log.proofs.PictureLaws.{sound_checkpointed}
 use Rattle.message_log.proofs.logs.Log.checkpoint.Goals as goal

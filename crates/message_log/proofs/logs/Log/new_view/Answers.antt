@@ -1,4 +1,4 @@
-use Rattle.std.proofs.Common.{◌≡◌, ℕ, ◌+◌, ◌<◌, List, [], ◌∷◌, ◌++◌, Option, Some, None, Bool, false, ap, subst, sym, ◌∙◌, arith, refl}
+use Rattle.std.proofs.Common.{◌≡◌, List, [], ◌∷◌, ◌++◌, Option, None, Bool, false, ap, subst, ◌∙◌, arith}
 use Rattle.ft_outside.specs.Keeping.{IsForetold, plan_after}
 use Rattle.log_records.specs.Records.{view_record}
 use Rattle.message_log.proofs.logs.Log.new_view.Goals as goal

@@ -1,4 +1,4 @@
-use Rattle.std.proofs.Common.{◌≡◌, List, ap, subst, sym, Bool, true, ◌∙◌}
+use Rattle.std.proofs.Common.{List, ap, subst, sym, Bool}
 use Rattle.std.specs.Prelude.{vec_len, vec_capacity}
 use Rattle.reply_table.specs.Entries.{Table}
 use Rattle.reply_table.specs.declared.entries.Retained.{Retained}
