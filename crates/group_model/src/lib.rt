@@ -12,4 +12,8 @@ mod refusals;
 pub use asking::Asked;
 pub use changes::{Change, ManageFault};
 pub use events::{Event, GroupAnswer, Inner, Out, OutList};
+pub use laws::{
+    agreement_lasts, calls_are_counted, deposed_append_nothing, groups_grow, groups_stay_sound,
+    knowledge_never_falls, refusals_change_nothing,
+};
 pub use refusals::Refusal;

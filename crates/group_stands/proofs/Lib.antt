@@ -5,3 +5,7 @@ pub mod Admits
 pub mod Goes
 pub mod Replicas
 pub mod Opens
+pub mod Gives
+pub mod Holds
+pub mod Views
+pub mod NextViews

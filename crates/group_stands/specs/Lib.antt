@@ -1,3 +1,6 @@
 pub mod Stands
 pub mod Telling
 pub mod Going
+pub mod Giving
+pub mod Holding
+pub mod Viewing

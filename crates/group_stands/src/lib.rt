@@ -3,8 +3,14 @@
 //! and the plain group, and the functions do nothing but state laws.
 #![tactic(auto)]
 
+mod giving;
 mod going;
+mod holding;
 mod telling;
+mod viewing;
 
+pub use giving::{given_states_stand, replicas_give, what_is_given_stays};
 pub use going::{entries_run, logs_go_on, replicas_go_on};
+pub use holding::{holdbacks_go_on, orders_run};
 pub use telling::{logs_admit, logs_tell, repeats_are_answered, states_are_states};
+pub use viewing::{views_are_shown, views_join};

@@ -1,0 +1,16 @@
+//! The views of a log that stands for a group, and its next view. The functions do nothing: their
+//! contracts are facts.
+ghost use Rattle.group_stands.specs.Viewing.{LogsShowViews, LogsShowNoOthers, NextViewsAreLogged, ViewsJoin, ReplicasGoOnViewed};
+
+/// A log has exactly its group's views, by their versions.
+pub fn views_are_shown()
+    ensures shown { LogsShowViews }
+    ensures others { LogsShowNoOthers }
+{}
+
+/// A log can write the next view; it and a replica go on standing where it was written.
+pub fn views_join()
+    ensures logged { NextViewsAreLogged }
+    ensures log { ViewsJoin }
+    ensures replica { ReplicasGoOnViewed }
+{}
