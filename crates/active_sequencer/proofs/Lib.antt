@@ -1,0 +1,4 @@
+pub mod Running
+pub mod Orders
+pub mod Sends
+pub mod Trying
