@@ -1,0 +1,99 @@
+//! The members of the next view, and its primary.
+ghost use Rattle.std.specs.Prelude.{◌≡◌, ◌∷◌, ◌++◌, [], ◌<◌, true, false, length};
+ghost use Rattle.ft_base.specs.Members.{is_member, AreDifferent};
+ghost use Rattle.ft_base.specs.declared.views.TheConstants.{MEMBER_LIMIT};
+ghost use Rattle.group_model.specs.Changes.{first_of, host_of_change, joins, kept_or_first, leads, members_then, primary_then};
+ghost use Rattle.group_model.specs.Views.{without};
+
+use crate::refusals::is_passive;
+use ft_base::{HostNo, Members, Style};
+use group_model::Change;
+
+/// The members but this one.
+fn without(host: HostNo, members: &Members) -> Members
+    requires { AreDifferent members.now }
+    ensures { result ≡ without host.0 members.now }
+{
+    // so many at most are kept, and so each of them has room
+    let _count = members.len();
+    let mut kept = Members::new();
+    for member in members.hosts() {
+        if *member != host.0 {
+            kept.join(HostNo(*member));
+        }
+    }
+    kept
+}
+
+/// The members, and this one as the last.
+fn joined(host: HostNo, members: &Members) -> Members
+    requires room { length members.now < MEMBER_LIMIT }
+    requires new { is_member host.0 members.now ≡ false }
+    ensures { result ≡ members.now ++ host.0 ∷ [] }
+{
+    let mut joined = members.copy();
+    joined.join(host);
+    joined
+}
+
+/// The members after a change.
+pub(crate) fn members_then(change: &Change, members: &Members) -> Members
+    requires different { AreDifferent members.now }
+    requires new { joins change.now ≡ true → is_member (host_of_change change.now).0 members.now ≡ false }
+    requires room { joins change.now ≡ true → length members.now < MEMBER_LIMIT }
+    ensures { result ≡ members_then change.now members.now }
+{
+    match *change {
+        Change::Report(host) => without(host, members),
+        Change::Remove(host) => without(host, members),
+        Change::Add(host) => joined(host, members),
+        Change::Create { host, .. } => joined(host, members),
+        Change::Primary(_) => members.copy(),
+    }
+}
+
+fn first_of(members: &Members) -> Option<HostNo>
+    ensures { result ≡ first_of members.now }
+{
+    match members.hosts().first() {
+        None => None,
+        Some(host) => Some(HostNo(*host)),
+    }
+}
+
+/// The primary stays while it is a member; else the first member is.
+fn kept_or_first(primary: Option<HostNo>, members: &Members) -> Option<HostNo>
+    ensures { result ≡ kept_or_first primary members.now }
+{
+    match primary {
+        None => first_of(members),
+        Some(primary) => {
+            if members.has(primary) {
+                Some(primary)
+            } else {
+                first_of(members)
+            }
+        }
+    }
+}
+
+/// The primary after a change, with the members of then.
+pub(crate) fn primary_then(
+    style: Style,
+    change: &Change,
+    primary: Option<HostNo>,
+    members: &Members,
+) -> Option<HostNo>
+    ensures { result ≡ primary_then style change.now primary members.now }
+{
+    if !is_passive(style) {
+        return None;
+    }
+    match *change {
+        Change::Primary(host) => Some(host),
+        Change::Report(_) => kept_or_first(primary, members),
+        Change::Remove(_) => kept_or_first(primary, members),
+        Change::Add(_) => kept_or_first(primary, members),
+        Change::Create { .. } => kept_or_first(primary, members),
+    }
+}

@@ -1,0 +1,112 @@
+//! Why a change of members is refused.
+ghost use Rattle.std.specs.Prelude.{◌≡◌, ◌<◌, true, false, length, IfNone};
+ghost use Rattle.ft_base.specs.Members.{is_member};
+ghost use Rattle.ft_base.specs.declared.limits.TheConstants.{VIEW_LIMIT};
+ghost use Rattle.ft_base.specs.declared.views.TheConstants.{MEMBER_LIMIT};
+ghost use Rattle.group_model.specs.Changes.{change_rows, first_fault, host_of_change, is_unlisted, is_unmade, joins, leads};
+ghost use Rattle.group_model.specs.Views.{is_passive, is_primary};
+
+use ft_base::{HostNo, MEMBER_LIMIT, Style, VIEW_LIMIT, View};
+use group_model::{Change, ManageFault};
+
+fn host_of_change(change: &Change) -> HostNo
+    ensures { result ≡ host_of_change change.now }
+{
+    match *change {
+        Change::Report(host) => host,
+        Change::Remove(host) => host,
+        Change::Add(host) => host,
+        Change::Create { host, .. } => host,
+        Change::Primary(host) => host,
+    }
+}
+
+pub(crate) fn joins(change: &Change) -> bool
+    ensures { result ≡ joins change.now }
+{
+    match change {
+        Change::Add(_) | Change::Create { .. } => true,
+        Change::Report(_) | Change::Remove(_) | Change::Primary(_) => false,
+    }
+}
+
+pub(crate) fn leads(change: &Change) -> bool
+    ensures { result ≡ leads change.now }
+{
+    match change {
+        Change::Primary(_) => true,
+        Change::Report(_) | Change::Remove(_) | Change::Add(_) | Change::Create { .. } => false,
+    }
+}
+
+fn is_unlisted(change: &Change) -> bool
+    ensures { result ≡ is_unlisted change.now }
+{
+    match change {
+        Change::Create { listed, .. } => !*listed,
+        Change::Report(_) | Change::Remove(_) | Change::Add(_) | Change::Primary(_) => false,
+    }
+}
+
+fn is_unmade(change: &Change) -> bool
+    ensures { result ≡ is_unmade change.now }
+{
+    match change {
+        Change::Create { made, .. } => !*made,
+        Change::Report(_) | Change::Remove(_) | Change::Add(_) | Change::Primary(_) => false,
+    }
+}
+
+pub(crate) fn is_passive(style: Style) -> bool
+    ensures { result ≡ is_passive style }
+{
+    match style {
+        Style::Cold | Style::Warm => true,
+        Style::Active => false,
+    }
+}
+
+fn is_primary(host: HostNo, primary: Option<HostNo>) -> bool
+    ensures { result ≡ is_primary host.0 primary }
+{
+    match primary {
+        None => false,
+        Some(primary) => primary.0 == host.0,
+    }
+}
+
+/// The first cause for which a change is refused.
+pub(crate) fn fault_of(style: Style, view: &View, change: &Change) -> Option<ManageFault>
+    ensures first { result ≡ first_fault (change_rows style view.now change.now) }
+    ensures new { IfNone result (joins change.now ≡ true → is_member (host_of_change change.now).0 view.now.members ≡ false) }
+    ensures room { IfNone result (joins change.now ≡ true → length view.now.members < MEMBER_LIMIT) }
+    ensures more { IfNone result (view.now.version.0 < VIEW_LIMIT) }
+{
+    let host = host_of_change(change);
+    let is_in = view.members.has(host);
+    if is_unlisted(change) {
+        return Some(ManageFault::NoFactory(host));
+    }
+    if joins(change) && is_in {
+        return Some(ManageFault::MemberAlreadyPresent(host));
+    }
+    if joins(change) && view.members.len() >= MEMBER_LIMIT {
+        return Some(ManageFault::ObjectNotAdded(MEMBER_LIMIT as u8));
+    }
+    if is_unmade(change) {
+        return Some(ManageFault::ObjectNotCreated(host));
+    }
+    if leads(change) && !is_passive(style) {
+        return Some(ManageFault::BadReplicationStyle);
+    }
+    if !joins(change) && !is_in {
+        return Some(ManageFault::MemberNotFound(host));
+    }
+    if leads(change) && is_primary(host, view.primary) {
+        return Some(ManageFault::PrimaryNotSet(host));
+    }
+    if view.version.0 >= VIEW_LIMIT {
+        return Some(ManageFault::ViewsFull(VIEW_LIMIT));
+    }
+    None
+}

@@ -1,0 +1,406 @@
+//! A row for each refusal of a change and for each kind of change in each style, whom a view is told, and
+//! the directory.
+ghost use Rattle.std.specs.Prelude.{◌≡◌, ◌≤◌, ◌∷◌, [], length, IfOk};
+ghost use Rattle.ft_base.specs.Members.{AreDifferent};
+ghost use Rattle.iogr_reference.specs.Formats.{AreShort};
+
+use crate::{Groups, changed, view_sent};
+use ft_base::{GroupId, HostNo, MEMBER_LIMIT, Members, Name, NoMemory, Style, Version, View};
+use group_model::{Change, Inner, ManageFault};
+use iogr_reference::{Ior, Ports, RefFault, group_ref_of};
+use std::alloc::Global;
+use std::process::Abort;
+
+// A version, members and a primary.
+type Seen = (u32, &'static [u8], Option<u8>);
+
+fn host_of(host: Option<u8>) -> Option<HostNo> {
+    match host {
+        None => None,
+        Some(host) => Some(HostNo(host)),
+    }
+}
+
+#[tactic(auto, using(crate::proofs::OneByOne::joined_differ))]
+fn join_new(members: &mut Members, host: HostNo)
+    ensures { AreDifferent members.old → AreDifferent members.new }
+{
+    if members.len() >= MEMBER_LIMIT || members.has(host) {
+        return;
+    }
+    members.join(host);
+}
+
+/// A view of these members.
+fn view_of(seen: &Seen) -> View
+    ensures { AreDifferent result.members }
+{
+    let (version, hosts, primary) = seen;
+    let mut members = Members::new();
+    for host in *hosts {
+        join_new(&mut members, HostNo(*host));
+    }
+    View {
+        version: Version(*version),
+        members,
+        primary: host_of(*primary),
+    }
+}
+
+fn is_seen(view: &View, seen: &Seen) -> bool {
+    let (version, hosts, primary) = seen;
+    view.version.0 == *version
+        && view.members.hosts() == *hosts
+        && view.primary == host_of(*primary)
+}
+
+// A style, a view, a change; the next view or the refusal.
+type Row = (Style, Seen, Change, Result<Seen, ManageFault>);
+
+const ALL: &[u8] = &[0, 1, 2, 3, 4, 5, 6, 7, 8, 9, 10, 11, 12, 13, 14, 15];
+
+const FULL: Seen = (65_536, ALL, Some(0));
+
+const LAST: Seen = (65_536, &[4, 5, 6], Some(4));
+
+const H: HostNo = HostNo(4);
+
+const OTHER: HostNo = HostNo(20);
+
+// In the order in which the causes are looked at: each change but the last meets later causes too.
+const REFUSED: [Row; 12] = [
+    (
+        Style::Active,
+        FULL,
+        Change::Create {
+            host: H,
+            listed: false,
+            made: false,
+        },
+        Err(ManageFault::NoFactory(H)),
+    ),
+    (
+        Style::Active,
+        FULL,
+        Change::Create {
+            host: H,
+            listed: true,
+            made: false,
+        },
+        Err(ManageFault::MemberAlreadyPresent(H)),
+    ),
+    (
+        Style::Cold,
+        FULL,
+        Change::Add(H),
+        Err(ManageFault::MemberAlreadyPresent(H)),
+    ),
+    (
+        Style::Warm,
+        FULL,
+        Change::Create {
+            host: OTHER,
+            listed: true,
+            made: false,
+        },
+        Err(ManageFault::ObjectNotAdded(16)),
+    ),
+    (
+        Style::Warm,
+        FULL,
+        Change::Add(OTHER),
+        Err(ManageFault::ObjectNotAdded(16)),
+    ),
+    (
+        Style::Warm,
+        LAST,
+        Change::Create {
+            host: OTHER,
+            listed: true,
+            made: false,
+        },
+        Err(ManageFault::ObjectNotCreated(OTHER)),
+    ),
+    (
+        Style::Active,
+        LAST,
+        Change::Primary(OTHER),
+        Err(ManageFault::BadReplicationStyle),
+    ),
+    (
+        Style::Cold,
+        LAST,
+        Change::Primary(OTHER),
+        Err(ManageFault::MemberNotFound(OTHER)),
+    ),
+    (
+        Style::Active,
+        LAST,
+        Change::Remove(OTHER),
+        Err(ManageFault::MemberNotFound(OTHER)),
+    ),
+    (
+        Style::Active,
+        LAST,
+        Change::Report(OTHER),
+        Err(ManageFault::MemberNotFound(OTHER)),
+    ),
+    (
+        Style::Warm,
+        LAST,
+        Change::Primary(H),
+        Err(ManageFault::PrimaryNotSet(H)),
+    ),
+    (
+        Style::Warm,
+        LAST,
+        Change::Report(H),
+        Err(ManageFault::ViewsFull(65_536)),
+    ),
+];
+
+const PASSIVE: Seen = (7, &[4, 5, 6], Some(4));
+
+const ACTIVE: Seen = (7, &[4, 5, 6], None);
+
+const MADE: Change = Change::Create {
+    host: OTHER,
+    listed: true,
+    made: true,
+};
+
+const CHANGED: [Row; 18] = [
+    (
+        Style::Cold,
+        PASSIVE,
+        Change::Report(H),
+        Ok((8, &[5, 6], Some(5))),
+    ),
+    (
+        Style::Warm,
+        PASSIVE,
+        Change::Report(HostNo(5)),
+        Ok((8, &[4, 6], Some(4))),
+    ),
+    (
+        Style::Active,
+        ACTIVE,
+        Change::Report(H),
+        Ok((8, &[5, 6], None)),
+    ),
+    (
+        Style::Cold,
+        PASSIVE,
+        Change::Remove(HostNo(6)),
+        Ok((8, &[4, 5], Some(4))),
+    ),
+    (
+        Style::Warm,
+        PASSIVE,
+        Change::Remove(H),
+        Ok((8, &[5, 6], Some(5))),
+    ),
+    (
+        Style::Active,
+        ACTIVE,
+        Change::Remove(HostNo(5)),
+        Ok((8, &[4, 6], None)),
+    ),
+    (
+        Style::Cold,
+        (65_535, &[4], Some(4)),
+        Change::Remove(H),
+        Ok((65_536, &[], None)),
+    ),
+    (
+        Style::Cold,
+        PASSIVE,
+        Change::Add(OTHER),
+        Ok((8, &[4, 5, 6, 20], Some(4))),
+    ),
+    (
+        Style::Warm,
+        PASSIVE,
+        Change::Add(OTHER),
+        Ok((8, &[4, 5, 6, 20], Some(4))),
+    ),
+    (
+        Style::Active,
+        ACTIVE,
+        Change::Add(OTHER),
+        Ok((8, &[4, 5, 6, 20], None)),
+    ),
+    (
+        Style::Warm,
+        (7, &[], None),
+        Change::Add(OTHER),
+        Ok((8, &[20], Some(20))),
+    ),
+    (
+        Style::Active,
+        (7, &[], None),
+        Change::Add(OTHER),
+        Ok((8, &[20], None)),
+    ),
+    (Style::Cold, PASSIVE, MADE, Ok((8, &[4, 5, 6, 20], Some(4)))),
+    (Style::Warm, (7, &[], None), MADE, Ok((8, &[20], Some(20)))),
+    (Style::Active, ACTIVE, MADE, Ok((8, &[4, 5, 6, 20], None))),
+    (
+        Style::Cold,
+        PASSIVE,
+        Change::Primary(HostNo(6)),
+        Ok((8, &[4, 5, 6], Some(6))),
+    ),
+    (
+        Style::Warm,
+        PASSIVE,
+        Change::Primary(HostNo(5)),
+        Ok((8, &[4, 5, 6], Some(5))),
+    ),
+    (
+        Style::Active,
+        ACTIVE,
+        Change::Primary(H),
+        Err(ManageFault::BadReplicationStyle),
+    ),
+];
+
+fn each_row(rt: &impl Abort, rows: &[Row]) {
+    for (style, seen, change, wanted) in rows {
+        match changed(&view_of(seen), *style, change) {
+            Ok(view) => assert!(rt;
+                matches!(wanted, Ok(next) if is_seen(&view, next)),
+                "{change:?}"
+            ),
+            Err(fault) => assert!(rt;
+                matches!(wanted, Err(why) if fault == *why),
+                "{change:?}: {fault}"
+            ),
+        }
+    }
+}
+
+#[test]
+fn changes(rt: HostRuntime) {
+    each_row(&rt, &REFUSED);
+    each_row(&rt, &CHANGED);
+}
+
+// An old view, a new one, and the hosts that are told of it.
+const TOLD: [(Seen, Seen, &[u8]); 3] = [
+    ((1, &[4, 5], Some(4)), (2, &[5], Some(5)), &[4, 5]),
+    ((1, &[4, 5], Some(4)), (2, &[4, 5, 6], Some(4)), &[4, 5, 6]),
+    ((1, &[], None), (2, &[6], Some(6)), &[6]),
+];
+
+#[test]
+fn views_are_told(rt: HostRuntime) -> Result<(), NoMemory> {
+    for (old, new, hosts) in &TOLD {
+        let out = view_sent(rt.alloc(), &view_of(old), &view_of(new))?;
+        assert_eq!(rt; out.as_slice().len(), hosts.len());
+        for (sent, host) in out.as_slice().iter().zip(hosts.iter()) {
+            assert_eq!(rt; sent.to.0, *host);
+            assert!(rt; matches!(&sent.carried, Inner::View { version } if version.0 == 2));
+        }
+    }
+    Ok(())
+}
+
+fn type_id(alloc: Global) -> Result<Name, NoMemory> {
+    match Name::of(alloc, b"IDL:ftc/Store:1.0") {
+        Ok(name) => Ok(name),
+        Err(_) => Err(NoMemory),
+    }
+}
+
+/// Two groups, of which the first is deleted, and one more.
+fn filled(rt: &impl Abort, alloc: Global) -> Result<Groups, NoMemory> {
+    let mut groups = Groups::new(alloc);
+    let first = groups.add(type_id(alloc)?, Style::Cold)?;
+    let second = groups.add(type_id(alloc)?, Style::Active)?;
+    assert!(rt; groups.delete(first).is_ok());
+    let third = groups.add(type_id(alloc)?, Style::Warm)?;
+    assert_eq!(rt; (first.0, second.0, third.0), (1, 2, 3));
+    Ok(groups)
+}
+
+const GONE: [u64; 4] = [0, 1, 4, u64::MAX];
+
+#[test]
+fn groups_are_found(rt: HostRuntime) -> Result<(), NoMemory> {
+    let mut groups = filled(&rt, rt.alloc())?;
+    let view = view_of(&PASSIVE);
+    for gone in &GONE {
+        let group = GroupId(*gone);
+        assert!(rt; groups.find(group).is_err());
+        assert!(rt; groups.delete(group).is_err());
+        assert!(rt; groups.add_member(group, &view, Style::Warm, OTHER).is_err());
+    }
+    assert!(rt; matches!(groups.find(GroupId(2)), Ok(info) if info.style == Style::Active));
+    assert!(rt;
+        matches!(groups.report(GroupId(3), &view, Style::Warm, H), Ok(next) if is_seen(&next, &(8, &[5, 6], Some(5))))
+    );
+    assert!(rt;
+        matches!(
+            groups.set_primary_member(GroupId(3), &view, Style::Warm, H),
+            Err(ManageFault::PrimaryNotSet(_))
+        )
+    );
+    Ok(())
+}
+
+/// The view of hosts 0 and 1.
+fn pair() -> View
+    ensures { result.members ≡ 0 ∷ 1 ∷ [] }
+{
+    let mut members = Members::new();
+    members.join(HostNo(0));
+    members.join(HostNo(1));
+    View {
+        version: Version(5),
+        members,
+        primary: Some(HostNo(1)),
+    }
+}
+
+fn ports(alloc: Global) -> Result<Ports, NoMemory>
+    ensures { IfOk result (λ ports. 2 ≤ length ports) }
+{
+    let mut ports = Vec::new(alloc);
+    ports.push(2000)?;
+    ports.push(2001)?;
+    Ok(Ports::from_vec(ports))
+}
+
+fn group_named(alloc: Global, reference: &Ior) -> Result<u64, RefFault>
+    requires { AreShort reference.now.profiles }
+{
+    match group_ref_of(alloc, reference) {
+        Ok(named) => Ok(named.group.0),
+        Err(fault) => Err(fault),
+    }
+}
+
+fn references(rt: &impl Abort, alloc: Global) -> Result<(), NoMemory> {
+    let groups = filled(rt, alloc)?;
+    let view = pair();
+    let ports = ports(alloc)?;
+    match groups.get_object_group_ref(alloc, GroupId(3), &view, &ports) {
+        Ok(reference) => assert!(rt; matches!(group_named(alloc, &reference), Ok(3))),
+        Err(_) => return Err(NoMemory),
+    }
+    match groups.get_member_ref(alloc, GroupId(3), &view, HostNo(1), &ports) {
+        Ok(reference) => assert!(rt;
+            matches!(group_named(alloc, &reference), Err(RefFault::NotAGroup))
+        ),
+        Err(_) => return Err(NoMemory),
+    }
+    let none = groups.get_member_ref(alloc, GroupId(3), &view, HostNo(2), &ports);
+    assert!(rt; matches!(none, Err(ManageFault::MemberNotFound(_))));
+    Ok(())
+}
+
+#[test]
+fn groups_have_references(rt: HostRuntime) -> Result<(), NoMemory> {
+    references(&rt, rt.alloc())
+}
