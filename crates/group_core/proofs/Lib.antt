@@ -1,0 +1,5 @@
+pub mod Growing
+pub mod Acts
+pub mod Opens
+pub mod Runs
+pub mod Trying

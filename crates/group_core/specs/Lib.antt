@@ -1,0 +1,5 @@
+pub mod Cores
+pub mod Opening
+pub mod Acting
+pub mod Running
+pub mod Trying

@@ -1,0 +1,216 @@
+ghost use Rattle.std.specs.Prelude.{◌≡◌, ◌<◌, ◌≤◌, ℕ, [], Some, Err, false, not, length, slice_get, option_copied, option_map, IfOk, OnOk, OnErr, MatchResult};
+ghost use Rattle.std.specs.List.{AllByRecursion};
+ghost use Rattle.ft_base.specs.Members.{AreDifferent};
+ghost use Rattle.ft_base.specs.declared.limits.TheConstants.{HOST_LIMIT};
+ghost use Rattle.ft_outside.specs.Keeping.{failing_next, IsForetold};
+ghost use Rattle.message_log.specs.Calls.{IsStarted};
+ghost use Rattle.message_log.specs.Picture.{view_at};
+ghost use Rattle.group_model.specs.Agreeing.{Agrees};
+ghost use Rattle.group_model.specs.Changes.{first_of};
+ghost use Rattle.group_model.specs.Openings.{first_view, opening_group};
+ghost use Rattle.group_model.specs.Plain.{Group};
+ghost use Rattle.group_hosts.specs.Hosts.{HostPicture};
+ghost use Rattle.group_hosts.specs.Keeping.{WroteFor};
+ghost use Rattle.group_core.specs.Acting.{IsActed};
+ghost use Rattle.group_core.specs.Cores.{Stands};
+ghost use Rattle.group_core.specs.Opening.{AreOpening, loaded_replica};
+
+use ft_base::{
+    GroupId, HOST_LIMIT, HostNo, Members, NoMemory, Servant, Steps, Style, Version, View,
+};
+use ft_outside::{Keeper, MemKeeper};
+use ft_replica::Replica;
+use group_hosts::{GroupHost, act_at, host_of};
+use group_model::{Event, GroupAnswer, groups_grow, groups_stay_sound};
+use group_stands::{holdbacks_go_on, logs_go_on, replicas_go_on};
+use message_log::{Log, LogFault};
+use std::alloc::Global;
+use std::marker::Model;
+use std::sync::ledger::Ledger;
+
+/// A group: its log, and its hosts by their numbers.
+#[derive(Drop)]
+pub struct GroupCore<S: Servant, K: Keeper> {
+    style: Style,
+    opening: S,
+    log: Log<K>,
+    hosts: Vec<GroupHost<S>>,
+}
+
+impl<S: Servant, K: Keeper> Model for GroupCore<S, K> {
+    ghost use Rattle.group_core.specs.Cores.{CorePicture};
+
+    ghost Value = { CorePicture };
+
+    ghost view = { λ c. record { style = c.style; kind = S.kind c.opening; opening = S.state c.opening; log = c.log; hosts = c.hosts.items } };
+}
+
+/// The hosts with which a group opens.
+#[tactic(auto, using(crate::proofs::Opens::none_yet, crate::proofs::Opens::one_more))]
+fn opening_hosts<S: Servant + Drop>(
+    alloc: Global,
+    opening: &S,
+    style: Style,
+    view: &View,
+) -> Result<Vec<GroupHost<S>>, NoMemory>
+    ensures { IfOk result (λ hosts. AreOpening (S.kind opening.now) (S.state opening.now) style view.now hosts.items HOST_LIMIT) }
+{
+    let mut hosts: Vec<GroupHost<S>> = Vec::new(alloc);
+    for number in 0..HOST_LIMIT as u8 {
+        let host = GroupHost::opening(alloc, opening, style, view, HostNo(number))?;
+        hosts.push(host)?;
+    }
+    Ok(hosts)
+}
+
+/// The first view of a group of this style.
+fn first_view(style: Style, members: Members) -> View
+    ensures { result ≡ first_view style members }
+{
+    let primary = match style {
+        Style::Active => None,
+        Style::Cold | Style::Warm => first_of(&members),
+    };
+    View {
+        version: Version(1),
+        members,
+        primary,
+    }
+}
+
+fn first_of(members: &Members) -> Option<HostNo>
+    ensures { result ≡ first_of members.now }
+{
+    match members.hosts() {
+        [] => None,
+        [first, ..] => Some(HostNo(*first)),
+    }
+}
+
+impl<S: Servant + Drop, K: Keeper> GroupCore<S, K> {
+    /// A group at its opening, with its first view: all hosts are up. A refusal hands the keeper back;
+    /// it comes where the view can't be written, or where there is no memory.
+    ///
+    /// Members differ always; a caller has to say so, as it sees them as a list.
+    pub fn new(
+        alloc: Global,
+        group: GroupId,
+        style: Style,
+        opening: S,
+        members: Members,
+        keeper: K,
+    ) -> Result<GroupCore<S, K>, (LogFault, K)>
+        requires empty { K.records keeper ≡ [] }
+        requires hosts { AllByRecursion (λ host. host < HOST_LIMIT) members }
+        requires different { AreDifferent members }
+        ensures { MatchResult result
+            (λ core. IsForetold (K.plan keeper) false × Stands S.machine core (opening_group group.0 style (S.kind opening) (S.state opening) members))
+            (λ refused. IsStarted (first_view style members) (K.records keeper) (K.records refused.1) (K.plan keeper) (K.plan refused.1) (K.faults keeper) (K.faults refused.1) (Err refused.0)) }
+    {
+        logs_go_on();
+        replicas_go_on();
+        holdbacks_go_on();
+        let _number = group;
+        let _limit = members.len();
+        let view = first_view(style, members);
+        let hosts = match opening_hosts(alloc, &opening, style, &view) {
+            Ok(hosts) => hosts,
+            Err(NoMemory) => return Err((LogFault::NoMemory, keeper)),
+        };
+        match Log::new(alloc, keeper, view) {
+            Ok(log) => Ok(GroupCore {
+                style,
+                opening,
+                log,
+                hosts,
+            }),
+            Err(refused) => Err(refused),
+        }
+    }
+
+    /// Acts an event that agrees with the group.
+    ///
+    /// Want of memory leaves nothing changed, or what the event's host knows and where it came with its
+    /// catch-up or its orders; or the request has joined the journal and its host is blank.
+    pub fn act<L: Ledger>(
+        &mut self,
+        alloc: Global,
+        event: Event,
+        steps: &mut Steps<L>,
+    ) -> GroupAnswer
+        requires { (g : Group) × Stands S.machine self.old g × Agrees (S.machine g.common.kind) event g }
+        ensures acted { (g : Group) → Stands S.machine self.old g → Agrees (S.machine g.common.kind) event g → IsActed S.machine g event result self.new steps.old steps.new }
+        ensures wrote { WroteFor event result self.old.log self.new.log }
+    {
+        groups_stay_sound();
+        groups_grow();
+        replicas_go_on();
+        holdbacks_go_on();
+        let at = host_of(&event);
+        let host = &mut self.hosts[at.0 as usize];
+        act_at(
+            alloc,
+            self.style,
+            &mut self.log,
+            host,
+            &self.opening,
+            event,
+            steps,
+        )
+    }
+
+    /// How the group's members share its work.
+    pub fn style(&self) -> Style
+        ensures { result ≡ self.now.style }
+    {
+        self.style
+    }
+
+    /// A host's replica; none where it isn't loaded.
+    pub fn replica(&self, host: HostNo) -> Option<&Replica<S>>
+        requires { host.0 < length self.now.hosts }
+        ensures { (at : HostPicture) → slice_get self.now.hosts host.0 ≡ Some at → option_copied result ≡ loaded_replica at }
+    {
+        self.hosts[host.0 as usize].replica()
+    }
+
+    /// The version of the newest view of which a host heard, or 0.
+    pub fn known(&self, host: HostNo) -> Version
+        requires { host.0 < length self.now.hosts }
+        ensures { (at : HostPicture) → slice_get self.now.hosts host.0 ≡ Some at → result.0 ≡ at.known }
+    {
+        self.hosts[host.0 as usize].known()
+    }
+
+    /// Whether a host is down.
+    pub fn is_down(&self, host: HostNo) -> bool
+        requires { host.0 < length self.now.hosts }
+        ensures { (at : HostPicture) → slice_get self.now.hosts host.0 ≡ Some at → result ≡ not at.up }
+    {
+        !self.hosts[host.0 as usize].is_up()
+    }
+
+    /// The view of a version; none exactly where the group has had no such view.
+    pub fn view(&self, version: Version) -> Option<&View>
+        ensures { option_copied result ≡ view_at self.now.log version.0 }
+    {
+        self.log.view(version)
+    }
+
+    /// The group's log.
+    pub fn log(&self) -> &Log<K>
+        ensures { result.now ≡ self.now.log }
+    {
+        &self.log
+    }
+}
+
+impl<S: Servant + Drop> GroupCore<S, MemKeeper> {
+    /// Makes the log's next write fail.
+    pub fn fail_next(&mut self) -> Result<(), NoMemory>
+        ensures planned { OnOk result (self.new ≡ record self.old { log = record self.old.log { plan = option_map failing_next self.old.log.plan } }) }
+        ensures left { OnErr result (self.new ≡ self.old) }
+    {
+        self.log.fail_next()
+    }
+}

@@ -1,0 +1,13 @@
+//! One group's events. A core holds a group's log and its 64 hosts, and acts every event of the group:
+//! requests, views, states, updates, orders, stops and starts, checkpoints, and changes of members.
+//! Whatever comes, the core stands for the plain group after it. (Chapter 23, Logging and Recovery
+//! Mechanisms.)
+#![tactic(auto)]
+
+mod cores;
+mod running;
+#[cfg(test)]
+mod tests;
+
+pub use cores::GroupCore;
+pub use running::run;

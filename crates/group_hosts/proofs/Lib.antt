@@ -1,0 +1,9 @@
+pub mod Shapes
+pub mod Holds
+pub mod Sends
+pub mod Enters
+pub mod Refuses
+pub mod Hears
+pub mod Asks
+pub mod Takes
+pub mod Manages

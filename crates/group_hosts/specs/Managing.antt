@@ -1,0 +1,31 @@
+-- What a change of members leaves of a group's log.
+use Rattle.std.specs.Prelude.{◌≡◌, ℕ, ◌<◌}
+use Rattle.ft_base.specs.Machine.{Machine}
+use Rattle.ft_base.specs.declared.limits.TheConstants.{HOST_LIMIT}
+use Rattle.ft_base.specs.declared.views.Style.{Style}
+use Rattle.message_log.specs.Picture.{Picture as LogPicture}
+use Rattle.group_model.specs.declared.events.GroupAnswer.{GroupAnswer}
+use Rattle.group_model.specs.declared.events.GroupAnswer.TheVariants.{NoMemory}
+use Rattle.group_model.specs.Events.{shows_fault}
+use Rattle.group_model.specs.Plain.{Common}
+use Rattle.group_model.specs.Turns.{Turn}
+use Rattle.group_model.specs.declared.changes.Change.{Change}
+use Rattle.group_model.specs.Changes.{on_manage, host_of_change}
+use Rattle.group_model.specs.Plain.{Host}
+use Rattle.group_stands.specs.Stands.{LogStands}
+
+-- a group of this style, its log, and a change of a host that there can be
+pub record CanManage (machines : ℕ → Machine) (c : Common) (its_style : Style) (change : Change) (its_log : LogPicture) : Type 0 where
+  pub style : its_style ≡ c.style
+  pub log : LogStands machines c its_log
+  pub host : (host_of_change change).0 < HOST_LIMIT
+
+-- the log and the answer are those of the plain group's turn
+pub record Changes (machines : ℕ → Machine) (t : Turn) (answer : GroupAnswer) (its_log : LogPicture) : Type 0 where
+  pub log : LogStands machines t.common its_log
+  pub told : t.answer ≡ answer
+
+-- which leaves its host as it was; or memory was wanted, and the log stands for the same group
+abbrev pub IsManaged : (ℕ → Machine) → Common → Host → Change → GroupAnswer → LogPicture → Type 0
+IsManaged machines c h change NoMemory log = LogStands machines c log
+IsManaged machines c h change answer log = Changes machines (on_manage c h change (shows_fault answer)) answer log

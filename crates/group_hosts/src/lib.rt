@@ -1,0 +1,14 @@
+//! A host of a group: what each event makes of it. Catching up, the decision table, the journal, transfers
+//! and orders are crates of their own; here a host's part in its group holds them together, and every
+//! event at it has the plain group's turn. (Chapter 23, Logging and Recovery Mechanisms.)
+#![tactic(auto)]
+
+mod acting;
+mod entering;
+mod hosts;
+mod managing;
+mod sending;
+mod taking;
+
+pub use acting::{act_at, host_of};
+pub use hosts::GroupHost;
