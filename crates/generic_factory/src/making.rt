@@ -1,0 +1,180 @@
+ghost use Rattle.std.specs.Prelude.{◌≡◌, ◌≤◌, ◌^◌, ◌+◌, [], None, Some, length, option_copied, is_some, IfOk, OnErr};
+ghost use Rattle.slab.specs.Slab.{Updates, get, slab_len};
+ghost use Rattle.generic_factory.specs.Creating.{count, criteria_refusal, full, number_refusal, object_at, refusal, unmet, IsChangedAt, IsCreated, IsDeleted, IsMade};
+
+use crate::faults::{CreateFault, ObjectNotFound};
+use ft_base::{Name, NoMemory};
+use property_manager::{
+    Property, PropertyFault, PropertyName, effective_in, judge_criteria, number_of_replicas,
+};
+use shipped_servants::{Kind, Shipped};
+use slab::Slab;
+use std::alloc::Global;
+use std::marker::Model;
+
+/// The most objects of a factory at once.
+pub const OBJECT_LIMIT: usize = 4096;
+
+/// By what an object is let go. Once it is, another object may have the same id.
+#[derive(Clone, Copy, Debug, PartialEq, Eq)]
+pub struct CreationId {
+    pub(crate) place: usize,
+}
+
+/// A factory, seen as the kinds of its objects by the places of their ids.
+#[derive(Drop)]
+pub struct Factory {
+    objects: Slab<Kind>,
+}
+
+impl Model for Factory {
+    ghost use Rattle.std.specs.Prelude.{List, Option};
+    ghost use Rattle.shipped_servants.specs.declared.kinds.Kind.{Kind};
+
+    ghost Value = { List (Option Kind) };
+
+    ghost view = { λ f. f.objects.slots };
+}
+
+/// Why these criteria aren't taken.
+#[tactic(auto, using(crate::proofs::Refusals::taken, crate::proofs::Refusals::invalid, crate::proofs::Refusals::unsupported, crate::proofs::Refusals::no_group))]
+fn criteria_refusal(alloc: Global, criteria: &[Property]) -> Result<Option<CreateFault>, NoMemory>
+    requires { length criteria.now ≤ 2 ^ 32 }
+    ensures { IfOk result (λ why. why ≡ criteria_refusal criteria.now) }
+{
+    match judge_criteria(alloc, criteria) {
+        Ok(()) => Ok(None),
+        Err(PropertyFault::InvalidProperty { place }) => {
+            Ok(Some(CreateFault::InvalidCriteria(place)))
+        }
+        Err(PropertyFault::UnsupportedProperty { place }) => {
+            Ok(Some(CreateFault::UnsupportedProperty(place)))
+        }
+        Err(PropertyFault::NoMemory) => Err(NoMemory),
+        Err(PropertyFault::ObjectGroupNotFound(_)) => unreachable!(),
+    }
+}
+
+fn unmet(initial: Option<u16>, minimum: Option<u16>) -> Option<CreateFault>
+    ensures { result ≡ unmet initial minimum }
+{
+    let initial = initial?;
+    let minimum = minimum?;
+    if initial < minimum {
+        Some(CreateFault::CannotMeetCriteria { initial, minimum })
+    } else {
+        None
+    }
+}
+
+/// Whether more replicas are to stay than are to be made at first.
+fn number_refusal(criteria: &[Property]) -> Option<CreateFault>
+    ensures { result ≡ number_refusal criteria.now }
+{
+    let initial = effective_in(criteria, PropertyName::InitialNumberReplicas);
+    let minimum = effective_in(criteria, PropertyName::MinimumNumberReplicas);
+    unmet(number_of_replicas(initial), number_of_replicas(minimum))
+}
+
+/// Puts an object at a place that is free.
+fn put(objects: &mut Slab<Kind>, kind: Kind) -> Result<usize, NoMemory>
+    ensures free { IfOk result (λ place. object_at objects.old.slots place ≡ None) }
+    ensures put { IfOk result (λ place. IsChangedAt place (Some kind) objects.old.slots objects.new.slots) }
+    ensures counted { IfOk result (λ place. count objects.new.slots ≡ count objects.old.slots + 1) }
+    ensures left { OnErr result (objects.new.slots ≡ objects.old.slots) }
+{
+    match objects.insert(kind) {
+        Ok(place) => Ok(place),
+        Err(_) => Err(NoMemory),
+    }
+}
+
+impl Factory {
+    /// A factory that has made nothing.
+    pub fn new(alloc: Global) -> Factory
+        ensures { result ≡ [] }
+    {
+        Factory {
+            objects: Slab::new(alloc),
+        }
+    }
+
+    /// How many objects it has made that aren't deleted.
+    pub fn len(&self) -> usize
+        ensures { result ≡ count self.now }
+    {
+        self.objects.len()
+    }
+
+    fn full(&self) -> Option<CreateFault>
+        ensures { result ≡ full (count self.now) }
+    {
+        if self.objects.len() >= OBJECT_LIMIT {
+            Some(CreateFault::ObjectNotCreated(4096))
+        } else {
+            None
+        }
+    }
+
+    /// Why no object is made of a type that there is.
+    fn refusal(&self, alloc: Global, criteria: &[Property]) -> Result<Option<CreateFault>, NoMemory>
+        requires { length criteria.now ≤ 2 ^ 32 }
+        ensures { IfOk result (λ why. why ≡ refusal criteria.now self.now) }
+    {
+        if let Some(fault) = criteria_refusal(alloc, criteria)? {
+            return Ok(Some(fault));
+        }
+        if let Some(fault) = number_refusal(criteria) {
+            return Ok(Some(fault));
+        }
+        Ok(self.full())
+    }
+
+    fn make(&mut self, alloc: Global, kind: Kind) -> Result<(Shipped, CreationId), NoMemory>
+        ensures made { IfOk result (λ made. IsMade kind made.0 made.1 self.old self.new) }
+        ensures left { OnErr result (self.new ≡ self.old) }
+    {
+        let Ok(servant) = Shipped::open(alloc, kind) else {
+            return Err(NoMemory);
+        };
+        match put(&mut self.objects, kind) {
+            Err(NoMemory) => Err(NoMemory),
+            Ok(place) => Ok((servant, CreationId { place })),
+        }
+    }
+
+    /// Makes an object of the type with this id, in its opening state. It is refused by the first of
+    /// these: no servant has the type id; a criterion is invalid; one is unsupported; the minimum number
+    /// of replicas is above the initial one; the factory is full.
+    pub fn create_object(
+        &mut self,
+        alloc: Global,
+        type_id: &Name,
+        criteria: &[Property],
+    ) -> Result<(Shipped, CreationId), CreateFault>
+        requires { length criteria.now ≤ 2 ^ 32 }
+        ensures { IsCreated type_id.now criteria.now self.old result self.new }
+    {
+        let Some(kind) = Kind::with_type_id(type_id.bytes()) else {
+            return Err(CreateFault::NoFactory);
+        };
+        match self.refusal(alloc, criteria) {
+            Err(NoMemory) => Err(CreateFault::NoMemory),
+            Ok(Some(fault)) => Err(fault),
+            Ok(None) => match self.make(alloc, kind) {
+                Err(NoMemory) => Err(CreateFault::NoMemory),
+                Ok(made) => Ok(made),
+            },
+        }
+    }
+
+    /// Lets go of an object. It takes no memory.
+    pub fn delete_object(&mut self, id: CreationId) -> Result<(), ObjectNotFound>
+        ensures { IsDeleted id self.old result self.new }
+    {
+        match self.objects.try_remove(id.place) {
+            None => Err(ObjectNotFound),
+            Some(_kind) => Ok(()),
+        }
+    }
+}

@@ -1,0 +1,4 @@
+pub mod EffectiveLemmas
+pub mod HostLemmas
+pub mod PlaceLemmas
+pub mod TypeLemmas
