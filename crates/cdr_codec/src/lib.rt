@@ -31,7 +31,8 @@ pub use laws::{
 pub use orders::Order;
 pub use readers::CdrReader;
 pub use tagged::{
-    Tagged, all_tagged_are_codecs, read_all_tagged, read_tagged, write_all_tagged, write_tagged,
+    Tagged, all_tagged_are_codecs, content_of, read_all_tagged, read_tagged, write_all_tagged,
+    write_tagged,
 };
 pub use values::{canonical, read_one, read_two, read_value, write_value};
 pub use writers::CdrWriter;

@@ -1,12 +1,12 @@
 //! Octets behind a number that says what they are: a profile or a component behind its tag, a service
 //! context behind its id.
-ghost use Rattle.std.specs.Prelude.{◌≡◌, ◌+◌, ◌<◌, ◌^◌, ℕ, List, length, IfOk, OnOk, OnErr};
+ghost use Rattle.std.specs.Prelude.{◌≡◌, ◌+◌, ◌<◌, ◌^◌, ℕ, List, length, option_map, IfOk, IfSome, OnOk, OnErr};
 ghost use Rattle.std.specs.List.{All};
 ghost use Rattle.cdr_codec.specs.declared.faults.CdrWhy.TheVariants as causes;
 ghost use Rattle.cdr_codec.specs.Formats.{tagged, all_tagged, read_each};
 ghost use Rattle.cdr_codec.specs.Calls.{field_fault, Gives, appended, appended_each, Keeps};
 ghost use Rattle.cdr_codec.specs.Laws.{IsCodec};
-ghost use Rattle.cdr_codec.specs.Tagged.{IsShort, IsCounted, IsNumbered};
+ghost use Rattle.cdr_codec.specs.Tagged.{content_of, IsShort, IsCounted, IsNumbered};
 
 use crate::faults::FieldFault;
 use crate::readers::CdrReader;
@@ -74,6 +74,18 @@ pub fn read_all_tagged<T: Tagged>(
 {
     let count = reader.read_u32()?;
     read_each(alloc, count, reader)
+}
+
+/// The octets of the first one behind this number.
+pub fn content_of<T: Tagged>(all: &[T], tag: u32) -> Option<&[u8]>
+    requires { All (IsShort T.parts) all.now }
+    ensures content { option_map (λ piece. piece.now) result ≡ content_of T.parts tag all.now }
+    ensures short { IfSome result (λ piece. length piece.now + 8 < 2 ^ 32) }
+{
+    match all.iter().find(|one| one.tag() == tag) {
+        Some(one) => Some(one.content()),
+        None => None,
+    }
 }
 
 /// Writes one.

@@ -16,7 +16,9 @@ use Rattle.ft_contexts.specs.declared.faults.ContextFault.TheVariants.{Twice, Ba
 use Rattle.cdr_codec.specs.Encapsulations.{held}
 use Rattle.cdr_codec.proofs.EncapsulationLaws.{held_found, held_again}
 use Rattle.ft_contexts.specs.Contents.{group_version, request}
-use Rattle.ft_contexts.specs.Finding.{stands_twice, content_of, or_bad, found_in, found_by, contexts_of, IsFoundIn, AreFound, wrong_contexts}
+use Rattle.cdr_codec.specs.Tagged.{content_of}
+use Rattle.ft_contexts.specs.Lists.{context_parts}
+use Rattle.ft_contexts.specs.Finding.{stands_twice, or_bad, found_in, found_by, contexts_of, IsFoundIn, AreFound, wrong_contexts}
 use Rattle.ft_contexts.proofs.ContentLaws.{group_version_codec, request_codec}
 
 record IsHeld {X : Type 0} (value : Result X (Fault CdrWhy)) (found : Option X) : Type 0 where
@@ -61,8 +63,8 @@ are_found contexts found e =
     subst (AreFound contexts) is (record {
       one_version = once.0;
       one_key = once.1;
-      version = is_found_in group_version group_version_codec FT_GROUP_VERSION (content_of FT_GROUP_VERSION contexts) v.0 v.1;
-      key = is_found_in request request_codec FT_REQUEST (content_of FT_REQUEST contexts) k.0 k.1;
+      version = is_found_in group_version group_version_codec FT_GROUP_VERSION (content_of context_parts FT_GROUP_VERSION contexts) v.0 v.1;
+      key = is_found_in request request_codec FT_REQUEST (content_of context_parts FT_REQUEST contexts) k.0 k.1;
     })
 
 passes : (b c : Bool) (rest : Result FtContexts ContextFault) (found : FtContexts)
@@ -72,8 +74,8 @@ passes b c rest found e d h = rw (e, d) h
 pub found_are : (contexts : List Context) (found : FtContexts) → AreFound contexts found → contexts_of contexts ≡ Ok found
 found_are contexts found a =
     passes (stands_twice FT_GROUP_VERSION contexts) (stands_twice FT_REQUEST contexts) _ found a.one_version a.one_key
-    (bind_goes (found_by group_version FT_GROUP_VERSION contexts) _ found.version _ (found_in_is group_version group_version_codec FT_GROUP_VERSION (content_of FT_GROUP_VERSION contexts) found.version a.version)
-    (bind_goes (found_by request FT_REQUEST contexts) _ found.key _ (found_in_is request request_codec FT_REQUEST (content_of FT_REQUEST contexts) found.key a.key) refl))
+    (bind_goes (found_by group_version FT_GROUP_VERSION contexts) _ found.version _ (found_in_is group_version group_version_codec FT_GROUP_VERSION (content_of context_parts FT_GROUP_VERSION contexts) found.version a.version)
+    (bind_goes (found_by request FT_REQUEST contexts) _ found.key _ (found_in_is request request_codec FT_REQUEST (content_of context_parts FT_REQUEST contexts) found.key a.key) refl))
 
 -- ---- a call's answers
 

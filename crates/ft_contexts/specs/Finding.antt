@@ -1,18 +1,20 @@
 -- The version and the key that a list of service contexts tells, and the order of refusals.
-use Rattle.std.specs.Prelude.{◌≡◌, ℕ, ◌+◌, ◌==◌, ◌<◌, ◌^◌, Bool, false, nat_lt, if◌then◌else◌, List, length, Option, Some, None, option_map, Result, Ok, Err}
-use Rattle.std.specs.List.{filter, find}
+use Rattle.std.specs.Prelude.{◌≡◌, ℕ, ◌+◌, ◌==◌, ◌<◌, ◌^◌, Bool, false, nat_lt, if◌then◌else◌, List, length, Option, Some, None, Result, Ok, Err}
+use Rattle.std.specs.List.{filter}
 use Rattle.cdr_codec.specs.declared.faults.CdrWhy.{CdrWhy}
 use Rattle.cdr_codec.specs.declared.faults.FieldFault.{FieldFault}
 use Rattle.cdr_codec.specs.declared.faults.FieldFault.TheVariants as fields
 use Rattle.cdr_codec.specs.Reading.{Fault, ◌>>=◌}
 use Rattle.cdr_codec.specs.Formats.{Format}
 use Rattle.cdr_codec.specs.Encapsulations.{Encapsulates, held}
+use Rattle.cdr_codec.specs.Tagged.{content_of}
 use Rattle.ft_contexts.specs.declared.lists.TheConstants.{FT_GROUP_VERSION, FT_REQUEST}
 use Rattle.ft_contexts.specs.declared.lists.Context.{Context}
 use Rattle.ft_contexts.specs.declared.lists.FtContexts.{FtContexts}
 use Rattle.ft_contexts.specs.declared.faults.ContextFault.{ContextFault}
 use Rattle.ft_contexts.specs.declared.faults.ContextFault.TheVariants.{Twice, Bad, NoMemory}
 use Rattle.ft_contexts.specs.Contents.{group_version, request}
+use Rattle.ft_contexts.specs.Lists.{context_parts}
 
 -- a content whose places fit an unsigned long
 abbrev pub IsShort : Context → Type 0
@@ -26,10 +28,6 @@ with_id id contexts = filter (has_id id) contexts
 
 abbrev pub stands_twice : ℕ → List Context → Bool
 stands_twice id contexts = nat_lt 1 (length (with_id id contexts))
-
--- the content of the first context with this id
-abbrev pub content_of : ℕ → List Context → Option (List ℕ)
-content_of id contexts = option_map (λ context. context.content) (find (has_id id) contexts)
 
 abbrev pub context_fault : ℕ → FieldFault → ContextFault
 context_fault id (fields.Bad wrong) = Bad id wrong.place
@@ -45,7 +43,7 @@ found_in f id (Some piece) = or_bad id (held f piece)
 
 -- the value in the context with this id, if that context is there
 abbrev pub found_by : {X : Type 0} → Format CdrWhy X → ℕ → List Context → Result (Option X) ContextFault
-found_by f id contexts = found_in f id (content_of id contexts)
+found_by f id contexts = found_in f id (content_of context_parts id contexts)
 
 -- neither of the two may stand twice; then each is read that is there
 abbrev pub contexts_of : List Context → Result FtContexts ContextFault
@@ -66,8 +64,8 @@ IsFoundIn f (Some piece) (Some x) = Encapsulates f.Spelled piece x
 pub record AreFound (contexts : List Context) (found : FtContexts) : Type 0 where
   pub one_version : stands_twice FT_GROUP_VERSION contexts ≡ false
   pub one_key : stands_twice FT_REQUEST contexts ≡ false
-  pub version : IsFoundIn group_version (content_of FT_GROUP_VERSION contexts) found.version
-  pub key : IsFoundIn request (content_of FT_REQUEST contexts) found.key
+  pub version : IsFoundIn group_version (content_of context_parts FT_GROUP_VERSION contexts) found.version
+  pub key : IsFoundIn request (content_of context_parts FT_REQUEST contexts) found.key
 
 -- what is wrong with contexts; nothing for want of memory
 abbrev pub wrong_contexts : ContextFault → Option ContextFault

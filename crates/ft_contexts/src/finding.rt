@@ -1,14 +1,14 @@
-ghost use Rattle.std.specs.Prelude.{◌≡◌, ◌+◌, ◌<◌, ◌^◌, length, IfOk, IfSome, option_map};
+ghost use Rattle.std.specs.Prelude.{◌≡◌, ◌+◌, ◌<◌, ◌^◌, length, IfOk};
 ghost use Rattle.std.specs.List.{All};
 ghost use Rattle.cdr_codec.specs.Calls.{Tells, Refuses};
 ghost use Rattle.ft_contexts.specs.declared.lists.FtContexts.{FtContexts as Told};
 ghost use Rattle.ft_contexts.specs.Contents.{group_version, request};
-ghost use Rattle.ft_contexts.specs.Finding.{IsShort, with_id, stands_twice, content_of, found_by, contexts_of, AreFound, context_fault, wrong_contexts};
+ghost use Rattle.ft_contexts.specs.Finding.{IsShort, with_id, stands_twice, found_by, contexts_of, AreFound, context_fault, wrong_contexts};
 
 use crate::faults::ContextFault;
 use crate::lists::{Context, Contexts, FT_GROUP_VERSION, FT_REQUEST, FtContexts};
 use crate::reading::{key_in, version_in};
-use cdr_codec::FieldFault;
+use cdr_codec::{FieldFault, content_of};
 use ft_base::{Key, Version};
 use std::alloc::Global;
 
@@ -22,17 +22,6 @@ fn is_twice(contexts: &[Context], id: u32) -> bool
     ensures { result ≡ stands_twice id contexts.now }
 {
     count_of(contexts, id) > 1
-}
-
-fn content_of(contexts: &[Context], id: u32) -> Option<&[u8]>
-    requires { All IsShort contexts.now }
-    ensures content { option_map (λ piece. piece.now) result ≡ content_of id contexts.now }
-    ensures short { IfSome result (λ piece. length piece.now + 8 < 2 ^ 32) }
-{
-    match contexts.iter().find(|context| context.id == id) {
-        Some(context) => Some(context.content.bytes()),
-        None => None,
-    }
 }
 
 /// A fault of the context with this id.

@@ -19,6 +19,7 @@ use Rattle.giop_messages.specs.declared.statuses.TheConstants.{NO_EXCEPTION, USE
 use Rattle.giop_messages.specs.declared.messages.Message.{Message}
 use Rattle.giop_messages.specs.declared.messages.Message.TheVariants.{Reply, LocateReply}
 use Rattle.host_server.specs.declared.answers.PortAnswer.{PortAnswer}
+use Rattle.host_server.specs.declared.limits.TheConstants.{BODY_LIMIT, PART_LIMIT}
 use Rattle.host_server.specs.declared.answers.PortAnswer.TheVariants.{NoGroup, Forward, Done, System}
 
 -- ---- bodies
@@ -43,7 +44,7 @@ body_of order (System fault) = fault_body order fault
 
 -- short enough for a Reply that with its header isn't over 1 MiB
 abbrev pub IsShortBody : List ℕ → Type 0
-IsShortBody bytes = length bytes ≤ 131072
+IsShortBody bytes = length bytes ≤ BODY_LIMIT
 
 -- ---- statuses
 
@@ -79,14 +80,14 @@ locate_reply_to id here = LocateReply id (locate_status_of here)
 
 -- ---- what can be answered
 
--- an id that no named exception has, of at most 65,536 bytes
+-- an id that no named exception has, of no more bytes than a part of a body can have
 pub record IsShortId (id : List ℕ) : Type 0 where
   pub other : IsOtherId id
-  pub short : length id ≤ 65536
+  pub short : length id ≤ PART_LIMIT
 
 pub record IsForward (order : Order) (body : Ior) : Type 0 where
   pub writable : IsWritable body
-  pub short : length (ior.written order 0 body) ≤ 65536
+  pub short : length (ior.written order 0 body) ≤ PART_LIMIT
 
 -- the canonical form of a result, as a servant gives it
 pub record IsResult (gives : Option Par) (value : List ℕ) : Type 0 where

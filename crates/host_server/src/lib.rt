@@ -4,9 +4,11 @@
 
 mod answers;
 mod bodies;
+mod limits;
 mod replies;
 #[cfg(test)]
 mod tests;
 
 pub use answers::PortAnswer;
+pub use limits::{BODY_LIMIT, PART_LIMIT};
 pub use replies::{locate_reply_bytes, message_error_bytes, reply_bytes};

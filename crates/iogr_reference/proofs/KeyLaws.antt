@@ -13,7 +13,7 @@ use Rattle.byteorder.specs.Endian.{big_bytes, big_number}
 use Rattle.byteorder.specs.Numbers.{big_number-reads_back}
 use Rattle.ft_base.specs.Text.{zero_place, IsName}
 use Rattle.ft_base.specs.declared.numbers.GroupId.{GroupId}
-use Rattle.iogr_reference.specs.declared.choices.TheConstants.{KEY_SIGN, ID_FRONT, ID_BACK}
+use Rattle.iogr_reference.specs.declared.choices.TheConstants.{KEY_SIGN, ID_FRONT, ID_BACK, ID_LIMIT}
 use Rattle.iogr_reference.proofs.OctetLaws.{at_each}
 use Rattle.iogr_reference.specs.Choices.{object_key, group_of_key, KeysNameGroups, repository_id}
 
@@ -91,7 +91,7 @@ no_zero_append xs ys one two =
 pub id_no_zero : (name : List ℕ) → IsName name → zero_place (repository_id name) ≡ None
 id_no_zero name h = no_zero_append (ID_FRONT ++ name) ID_BACK (no_zero_append ID_FRONT name refl h.no_zero) refl
 
-pub id_short : (name : List ℕ) → IsName name → length (repository_id name) ≤ 267
+pub id_short : (name : List ℕ) → IsName name → length (repository_id name) ≤ ID_LIMIT
 id_short name h =
     let front : length (ID_FRONT ++ name) ≡ 8 + length name = length-append ID_FRONT name in
     omega (arith, h.short, front, length-append (ID_FRONT ++ name) ID_BACK)

@@ -27,8 +27,9 @@ use Rattle.iogr_reference.specs.declared.references.GroupRef.{GroupRef}
 use Rattle.iogr_reference.specs.declared.faults.RefFault.{RefFault}
 use Rattle.iogr_reference.specs.declared.faults.RefFault.TheVariants as refusals
 use Rattle.iogr_reference.specs.declared.insides.Mark.{Mark}
-use Rattle.iogr_reference.specs.Formats.{iiop, group_tag}
-use Rattle.iogr_reference.specs.Groups.{content_of, tag_inside, truth_inside, mark_of, Marked, marked, in_front, marked_with, iiops_of, is_tag, lacks_tag, unequal_place, primaries, primary_place, equal_tags, tag_among, tag_of, group_from, group_among, group_of, profile_key, key_inside}
+use Rattle.iogr_reference.specs.Formats.{component_parts, iiop, group_tag}
+use Rattle.cdr_codec.specs.Tagged.{content_of}
+use Rattle.iogr_reference.specs.Groups.{tag_inside, truth_inside, mark_of, Marked, marked, in_front, marked_with, iiops_of, is_tag, lacks_tag, unequal_place, primaries, primary_place, equal_tags, tag_among, tag_of, group_from, group_among, group_of, profile_key, key_inside}
 use Rattle.iogr_reference.specs.Faults.{ref_refusal}
 use Rattle.iogr_reference.specs.Naming.{HasKey, NamesTag, TellsPrimary, IsMember, AreMembers, none, other, member, tag_in, NamesGroup}
 use Rattle.iogr_reference.proofs.Codecs.{iiop_codec, group_tag_codec}
@@ -62,22 +63,22 @@ mark_with tag b = record { group = Some tag; primary = b }
 abbrev with_group : Result Bool (Fault CdrWhy) → Option GroupTag → Result Mark (Fault CdrWhy)
 with_group truth group = truth >>= λ primary. Ok (record { group = group; primary = primary })
 
-mark_again : (cs : List Component) (tag : GroupTag) (b : Bool) → NamesTag (content_of GROUP_TAG cs) tag → TellsPrimary (content_of PRIMARY_TAG cs) b
+mark_again : (cs : List Component) (tag : GroupTag) (b : Bool) → NamesTag (content_of component_parts GROUP_TAG cs) tag → TellsPrimary (content_of component_parts PRIMARY_TAG cs) b
     → mark_of cs ≡ Ok (mark_with tag b)
 mark_again cs tag b g p =
-    let truth = truth_inside (content_of PRIMARY_TAG cs) in
-    bind_goes (tag_inside (content_of GROUP_TAG cs)) (with_group truth) (Some tag) (Ok (mark_with tag b)) (tag_again (content_of GROUP_TAG cs) tag g)
-    (bind_goes truth (λ primary. Ok (mark_with tag primary)) b (Ok (mark_with tag b)) (truth_again (content_of PRIMARY_TAG cs) b p) refl)
+    let truth = truth_inside (content_of component_parts PRIMARY_TAG cs) in
+    bind_goes (tag_inside (content_of component_parts GROUP_TAG cs)) (with_group truth) (Some tag) (Ok (mark_with tag b)) (tag_again (content_of component_parts GROUP_TAG cs) tag g)
+    (bind_goes truth (λ primary. Ok (mark_with tag primary)) b (Ok (mark_with tag b)) (truth_again (content_of component_parts PRIMARY_TAG cs) b p) refl)
 
 -- what was read of the two components
 record Marks (cs : List Component) (mark : Mark) : Type 0 where
-  pub group : tag_inside (content_of GROUP_TAG cs) ≡ Ok mark.group
-  pub primary : truth_inside (content_of PRIMARY_TAG cs) ≡ Ok mark.primary
+  pub group : tag_inside (content_of component_parts GROUP_TAG cs) ≡ Ok mark.group
+  pub primary : truth_inside (content_of component_parts PRIMARY_TAG cs) ≡ Ok mark.primary
 
 mark_found : (cs : List Component) (mark : Mark) → mark_of cs ≡ Ok mark → Marks cs mark
 mark_found cs mark e =
-    let truth = truth_inside (content_of PRIMARY_TAG cs) in
-    let a = bind_ok (tag_inside (content_of GROUP_TAG cs)) (with_group truth) mark e in
+    let truth = truth_inside (content_of component_parts PRIMARY_TAG cs) in
+    let a = bind_ok (tag_inside (content_of component_parts GROUP_TAG cs)) (with_group truth) mark e in
     let b = bind_ok truth (λ primary. Ok (record { group = a.0; primary = primary })) mark a.2 in
     let whole : ◌≡◌ {A = Mark} (record { group = a.0; primary = b.0 }) mark = ok_is _ mark b.2 in
     record {
@@ -124,8 +125,8 @@ is_member : (tag : GroupTag) (p : Profile) (x : Iiop) (mark : Mark) → p.tag �
     → IsMember tag p x mark.primary
 is_member tag p x mark same read told has = record {
   profile = record { tag = same; content = held_found iiop iiop_codec p.content x read };
-  group = tag_found (content_of GROUP_TAG x.components) tag (told.group ∙ ap (λ (o : Option GroupTag). Ok o) has);
-  primary = truth_found (content_of PRIMARY_TAG x.components) mark.primary told.primary;
+  group = tag_found (content_of component_parts GROUP_TAG x.components) tag (told.group ∙ ap (λ (o : Option GroupTag). Ok o) has);
+  primary = truth_found (content_of component_parts PRIMARY_TAG x.components) mark.primary told.primary;
 }
 
 -- one profile more, of another tag or of a member

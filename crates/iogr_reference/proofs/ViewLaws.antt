@@ -11,8 +11,8 @@ use Rattle.cdr_codec.proofs.EncapsulationLaws.{inside_written}
 use Rattle.iogr_reference.specs.declared.choices.TheConstants.{DOMAIN}
 use Rattle.iogr_reference.specs.declared.tags.TheConstants.{GROUP_TAG, PRIMARY_TAG}
 use Rattle.iogr_reference.specs.declared.references.GroupTag.{GroupTag}
-use Rattle.iogr_reference.specs.Formats.{iiop, group_tag}
-use Rattle.iogr_reference.specs.Groups.{content_of}
+use Rattle.iogr_reference.specs.Formats.{component_parts, iiop, group_tag}
+use Rattle.cdr_codec.specs.Tagged.{content_of}
 use Rattle.iogr_reference.specs.Naming.{NamesTag, TellsPrimary, IsMember, AreMembers, none, member}
 use Rattle.iogr_reference.specs.Views.{components_of, member_iiop, member_profile, is_primary_host, profile_of_host, iiop_of_host, reference_of, group_of_view, HasMembers}
 use Rattle.iogr_reference.specs.Laws.{ViewsAreNamed, ViewsAreRead}
@@ -33,14 +33,14 @@ iiop_valid group version port false p = search rules
 -- what the components of a member's profile say
 
 names_tag : (group : GroupId) (version : Version) (b : Bool) → group.0 < 2 ^ 64 → version.0 < 2 ^ 32
-    → NamesTag (content_of GROUP_TAG (components_of group version b)) (the_tag group version)
+    → NamesTag (content_of component_parts GROUP_TAG (components_of group version b)) (the_tag group version)
 names_tag group version true g v = inside_written group_tag group_tag_codec Big (the_tag group version) (tag_valid group version g v)
 names_tag group version false g v = inside_written group_tag group_tag_codec Big (the_tag group version) (tag_valid group version g v)
 
 truth_valid : boolean.Valid true
 truth_valid = search rules
 
-tells_primary : (group : GroupId) (version : Version) (b : Bool) → TellsPrimary (content_of PRIMARY_TAG (components_of group version b)) b
+tells_primary : (group : GroupId) (version : Version) (b : Bool) → TellsPrimary (content_of component_parts PRIMARY_TAG (components_of group version b)) b
 tells_primary group version true = inside_written boolean boolean_codec Big true truth_valid
 tells_primary group version false = refl
 

@@ -7,6 +7,7 @@ use Rattle.cdr_codec.specs.declared.faults.CdrWhy.{CdrWhy}
 use Rattle.cdr_codec.specs.Reading.{Fault, ◌>>=◌}
 use Rattle.cdr_codec.specs.Values.{boolean}
 use Rattle.cdr_codec.specs.Encapsulations.{held}
+use Rattle.cdr_codec.specs.Tagged.{content_of}
 use Rattle.iogr_reference.specs.declared.choices.TheConstants.{PROFILE_LIMIT}
 use Rattle.iogr_reference.specs.declared.tags.TheConstants.{IIOP_TAG, GROUP_TAG, PRIMARY_TAG}
 use Rattle.iogr_reference.specs.declared.references.Profile.{Profile}
@@ -18,7 +19,7 @@ use Rattle.iogr_reference.specs.declared.references.GroupRef.{GroupRef}
 use Rattle.iogr_reference.specs.declared.insides.Mark.{Mark}
 use Rattle.iogr_reference.specs.declared.faults.RefFault.{RefFault}
 use Rattle.iogr_reference.specs.declared.faults.RefFault.TheVariants as refusals
-use Rattle.iogr_reference.specs.Formats.{iiop, group_tag}
+use Rattle.iogr_reference.specs.Formats.{component_parts, iiop, group_tag}
 
 -- ---- what a profile says of its group
 
@@ -29,11 +30,6 @@ key_inside (Err wrong) = None
 -- the object key of an IIOP profile, where its content can be read
 abbrev pub profile_key : Profile → Option (List ℕ)
 profile_key p = if p.tag == IIOP_TAG then key_inside (held iiop p.content) else None
-
--- the content of the first component with this tag
-abbrev pub content_of : ℕ → List Component → Option (List ℕ)
-content_of tag [] = None
-content_of tag (c ∷ cs) = if c.tag == tag then Some c.content else content_of tag cs
 
 abbrev pub tag_inside : Option (List ℕ) → Result (Option GroupTag) (Fault CdrWhy)
 tag_inside None = Ok None
@@ -46,7 +42,7 @@ truth_inside (Some content) = held boolean content
 -- the group component, and whether there is a true primary component
 abbrev pub mark_of : List Component → Result Mark (Fault CdrWhy)
 mark_of cs =
-    tag_inside (content_of GROUP_TAG cs) >>= λ group. truth_inside (content_of PRIMARY_TAG cs) >>= λ primary.
+    tag_inside (content_of component_parts GROUP_TAG cs) >>= λ group. truth_inside (content_of component_parts PRIMARY_TAG cs) >>= λ primary.
     Ok (record { group = group; primary = primary })
 
 -- IIOP profiles, and beside each what it says of its group

@@ -5,6 +5,7 @@ use Rattle.std.specs.Prelude.{◌≡◌, ℕ, ◌<◌, ◌≤◌, Bool, true, fa
 use Rattle.hex.specs.Hex.{decode_of}
 use Rattle.cdr_codec.specs.Values.{boolean}
 use Rattle.cdr_codec.specs.Encapsulations.{Encapsulates}
+use Rattle.cdr_codec.specs.Tagged.{content_of}
 use Rattle.iogr_reference.specs.declared.choices.TheConstants.{PROFILE_LIMIT}
 use Rattle.iogr_reference.specs.declared.tags.TheConstants.{IIOP_TAG, GROUP_TAG, PRIMARY_TAG}
 use Rattle.iogr_reference.specs.declared.references.Profile.{Profile}
@@ -12,8 +13,7 @@ use Rattle.iogr_reference.specs.declared.references.Iiop.{Iiop}
 use Rattle.iogr_reference.specs.declared.references.Ior.{Ior}
 use Rattle.iogr_reference.specs.declared.references.GroupTag.{GroupTag}
 use Rattle.iogr_reference.specs.declared.references.GroupRef.{GroupRef}
-use Rattle.iogr_reference.specs.Formats.{iiop, group_tag, ior}
-use Rattle.iogr_reference.specs.Groups.{content_of}
+use Rattle.iogr_reference.specs.Formats.{component_parts, iiop, group_tag, ior}
 use Rattle.iogr_reference.specs.Texts.{has_prefix}
 
 -- ---- the object key of a profile
@@ -43,8 +43,8 @@ TellsPrimary (Some content) is_primary = Encapsulates boolean.Spelled content is
 -- an IIOP profile of a member of this group; of each kind of component the first counts
 pub record IsMember (tag : GroupTag) (p : Profile) (x : Iiop) (is_primary : Bool) : Type 0 where
   pub profile : IsIiop p x
-  pub group : NamesTag (content_of GROUP_TAG x.components) tag
-  pub primary : TellsPrimary (content_of PRIMARY_TAG x.components) is_primary
+  pub group : NamesTag (content_of component_parts GROUP_TAG x.components) tag
+  pub primary : TellsPrimary (content_of component_parts PRIMARY_TAG x.components) is_primary
 
 -- the IIOP profiles among these are those of members of this group, each with its mark as the primary's;
 -- profiles of other tags are passed over

@@ -21,5 +21,8 @@ pub const ID_FRONT: [u8; 8] = *b"IDL:ftc/";
 /// What stands behind it.
 pub const ID_BACK: [u8; 4] = *b":1.0";
 
+/// The most bytes of a repository id: those of its front, of a name, and of its back.
+pub const ID_LIMIT: usize = 267;
+
 /// The most IIOP profiles that a group's reference can have.
 pub const PROFILE_LIMIT: usize = 65_535;

@@ -1,18 +1,18 @@
 //! What the contents of profiles and components hold.
-ghost use Rattle.std.specs.Prelude.{◌≡◌, ℕ, List, ◌+◌, ◌<◌, ◌^◌, length, IfOk, IfSome, IfNone, option_map};
+ghost use Rattle.std.specs.Prelude.{◌≡◌, ℕ, List, ◌+◌, ◌<◌, ◌^◌, length, IfOk, IfSome, IfNone};
 ghost use Rattle.cdr_codec.specs.Values.{boolean};
 ghost use Rattle.cdr_codec.specs.Calls.{field_fault, Gives, Tells};
 ghost use Rattle.cdr_codec.specs.Encapsulations.{held};
-ghost use Rattle.cdr_codec.specs.Tagged.{IsShort};
-ghost use Rattle.iogr_reference.specs.Formats.{profile_parts, components_at, iiop, group_tag, AreShortComponents};
-ghost use Rattle.iogr_reference.specs.Groups.{content_of, tag_inside, truth_inside, mark_of, profile_key};
+ghost use Rattle.cdr_codec.specs.Tagged.{content_of, IsShort};
+ghost use Rattle.iogr_reference.specs.Formats.{component_parts, profile_parts, components_at, iiop, group_tag, AreShortComponents};
+ghost use Rattle.iogr_reference.specs.Groups.{tag_inside, truth_inside, mark_of, profile_key};
 ghost use Rattle.iogr_reference.specs.Naming.{HasKey};
 
 use crate::faults::IorFault;
 use crate::lists::Components;
 use crate::references::{Component, GroupTag, Iiop, Profile};
 use crate::tags::{GROUP_TAG, IIOP_TAG, PRIMARY_TAG};
-use cdr_codec::{CdrReader, open_encapsulation, read_all_tagged};
+use cdr_codec::{CdrReader, content_of, open_encapsulation, read_all_tagged};
 use ft_base::{Bytes, GroupId, NoMemory, Version};
 use std::alloc::Global;
 
@@ -130,24 +130,11 @@ fn boolean_inside(content: &[u8]) -> Result<bool, IorFault>
     Ok(value)
 }
 
-fn first_content(tag: u32, components: &[Component]) -> Option<&[u8]>
-    requires { AreShortComponents components.now }
-    ensures value { option_map (λ content. content.now) result ≡ content_of tag components.now }
-    ensures short { IfSome result (λ content. length content.now + 8 < 2 ^ 32) }
-{
-    for one in components {
-        if one.tag == tag {
-            return Some(one.content.bytes());
-        }
-    }
-    None
-}
-
 fn tag_in(alloc: Global, components: &[Component]) -> Result<Option<GroupTag>, IorFault>
     requires { AreShortComponents components.now }
-    ensures { Tells (λ t. t) field_fault result (tag_inside (content_of GROUP_TAG components.now)) }
+    ensures { Tells (λ t. t) field_fault result (tag_inside (content_of component_parts GROUP_TAG components.now)) }
 {
-    match first_content(GROUP_TAG, components) {
+    match content_of(components, GROUP_TAG) {
         None => Ok(None),
         Some(content) => {
             let tag = group_tag_inside(alloc, content)?;
@@ -158,9 +145,9 @@ fn tag_in(alloc: Global, components: &[Component]) -> Result<Option<GroupTag>, I
 
 fn truth_in(components: &[Component]) -> Result<bool, IorFault>
     requires { AreShortComponents components.now }
-    ensures { Tells (λ b. b) field_fault result (truth_inside (content_of PRIMARY_TAG components.now)) }
+    ensures { Tells (λ b. b) field_fault result (truth_inside (content_of component_parts PRIMARY_TAG components.now)) }
 {
-    match first_content(PRIMARY_TAG, components) {
+    match content_of(components, PRIMARY_TAG) {
         None => Ok(false),
         Some(content) => boolean_inside(content),
     }

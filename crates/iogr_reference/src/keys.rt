@@ -4,7 +4,7 @@ ghost use Rattle.ft_base.specs.declared.numbers.GroupId.{GroupId as AGroup};
 ghost use Rattle.ft_base.specs.Text.{zero_place};
 ghost use Rattle.iogr_reference.specs.Choices.{object_key, group_of_key, port_of, repository_id};
 
-use crate::choices::{FIRST_PORT, ID_BACK, ID_FRONT, KEY_LENGTH, KEY_SIGN};
+use crate::choices::{FIRST_PORT, ID_BACK, ID_FRONT, ID_LIMIT, KEY_LENGTH, KEY_SIGN};
 use byteorder::{BigEndian, ByteOrder};
 use ft_base::{Bytes, GroupId, HostNo, Name, NoMemory};
 use std::alloc::Global;
@@ -46,7 +46,7 @@ pub fn group_of_key(key: &[u8]) -> Option<GroupId>
 pub fn repository_id(alloc: Global, name: &Name) -> Result<Bytes, NoMemory>
     ensures value { IfOk result (λ id. id ≡ repository_id name.now) }
     ensures no_zero { IfOk result (λ id. zero_place id ≡ None) }
-    ensures short { IfOk result (λ id. length id ≤ 267) }
+    ensures short { IfOk result (λ id. length id ≤ ID_LIMIT) }
 {
     let mut id = Vec::from_slice(alloc, ID_FRONT.as_slice())?;
     id.extend_from_slice(name.bytes())?;

@@ -20,7 +20,7 @@ mod views;
 mod writing;
 
 pub use choices::{
-    ADDRESS, DOMAIN, FIRST_PORT, ID_BACK, ID_FRONT, KEY_LENGTH, KEY_SIGN, PROFILE_LIMIT,
+    ADDRESS, DOMAIN, FIRST_PORT, ID_BACK, ID_FRONT, ID_LIMIT, KEY_LENGTH, KEY_SIGN, PROFILE_LIMIT,
 };
 pub use faults::{IorFault, RefFault, TextFault};
 pub use groups::group_ref_of;
