@@ -109,7 +109,7 @@ request_counted m c h host clock asked stop fails le =
     let h' : Host = record h { known = known } in
     unless_bad_counted asked.bad_context c h (served_or m c h' host clock stop fails (request_in m c host known asked))
     (served_or_counted m c h h' host clock asked stop fails (request_in m c host known asked) refl le
-    (request_is (λ x. asks_journal x.decision ≡ false) m c host known asked (λ d a e. e) (λ d a e. e)))
+    (request_is (λ x. asks_journal x.decision ≡ false) m c host known asked (λ d a e t. e) (λ d a e t. e)))
 
 written_counted : (m : Machine) (c : Common) (h : Host) (b : Common) (k : Host) (e : Event) (host clock : ℕ) (fails : Bool) →
     let t = checkpoint_written m c h host clock fails in (t.calls ≡ 0) × (entries_run t.common.ran t.answer ≡ 0) × (entries_caught_up b k t.answer ≡ calls_behind b k)

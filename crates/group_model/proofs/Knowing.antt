@@ -12,7 +12,9 @@ use Rattle.ft_base.specs.declared.requests.Signature.{Signature}
 use Rattle.ft_base.specs.declared.views.Style.{Style}
 use Rattle.ft_base.specs.declared.views.View.{View}
 use Rattle.cdr_codec.specs.declared.bodies.Raw.{Raw}
+use Rattle.sys_faults.specs.Bodies.{OnUnknown}
 use Rattle.sys_faults.specs.declared.answers.Answer.{Answer}
+use Rattle.sys_faults.specs.declared.answers.Answer.TheVariants.{Done, System, Forward, ForwardPerm}
 use Rattle.group_model.specs.Counting.{asks_journal}
 use Rattle.group_model.specs.declared.asking.Asked.{Asked}
 use Rattle.group_model.specs.declared.changes.Change.{Change}
@@ -50,9 +52,17 @@ abbrev AllAre : (Refusal → Type 0) → List Row → Type 0
 AllAre P [] = Unit {0}
 AllAre P (r ∷ rows) = P r.refused × AllAre P rows
 
+-- a named exception, or the reference of the version that is known then
+abbrev pub IsToldAt : ℕ → Answer → Type 0
+IsToldAt known (Done outcome) = ⊥
+IsToldAt known (System fault) = OnUnknown fault.kind (λ id. ⊥)
+IsToldAt known (Forward version) = version.0 ≡ known
+IsToldAt known (ForwardPerm version) = version.0 ≡ known
+
 -- it holds of all that leave this version known
 abbrev pub OfKnown : (Refusal → Type 0) → ℕ → Type 0
-OfKnown P known = (decision : Decision) (answer : Answer) → asks_journal decision ≡ false → P (refused_as decision answer known)
+OfKnown P known =
+    (decision : Decision) (answer : Answer) → asks_journal decision ≡ false → IsToldAt known answer → P (refused_as decision answer known)
 
 one_is : (P : Refusal → Type 0) (b : Bool) (x : Refusal) (o : Option Refusal) → P x → SomeIs P o → SomeIs P (if b then Some x else o)
 one_is P true x o p rest = p
@@ -65,7 +75,7 @@ first_is P (r ∷ rows) all = one_is P r.stands r.refused (first_row rows) all.0
 rows_are : (P : Refusal → Type 0) (style : Style) (host asked known : ℕ) (view : View) (newest : ℕ) (last : View) → OfKnown P known → OfKnown P newest →
     AllAre P (view_rows style host asked known view newest last)
 rows_are P style host asked known view newest last p q =
-    (p _ _ refl, (p _ _ refl, (p _ _ refl, (p _ _ refl, (p _ _ refl, (q _ _ refl, (q _ _ refl, tt)))))))
+    (p _ _ refl tt, (p _ _ refl tt, (p _ _ refl refl, (p _ _ refl tt, (p _ _ refl refl, (q _ _ refl tt, (q _ _ refl refl, tt)))))))
 
 unless_is : (P : Refusal → Type 0) (o : Option Refusal) (r : Result Request Refusal) → SomeIs P o → ErrIs P r → ErrIs P (unless_refused o r)
 unless_is P None r x y = y
@@ -76,11 +86,11 @@ if_long_is P true x args p = p
 if_long_is P false x args p = tt
 
 within_is : (P : Refusal → Type 0) (k : ℕ) (args : Result (List ℕ) ℕ) → OfKnown P k → ErrIs P (args_within k args)
-within_is P k (Err place) p = p _ _ refl
-within_is P k (Ok args) p = if_long_is P (nat_lt ARGUMENTS_LIMIT (length args)) _ args (p _ _ refl)
+within_is P k (Err place) p = p _ _ refl tt
+within_is P k (Ok args) p = if_long_is P (nat_lt ARGUMENTS_LIMIT (length args)) _ args (p _ _ refl tt)
 
 args_are : (P : Refusal → Type 0) (k : ℕ) (o : Option Signature) (body : Raw) → OfKnown P k → ErrIs P (args_for k o body)
-args_are P k None body p = p _ _ refl
+args_are P k None body p = p _ _ refl tt
 args_are P k (Some signature) body p = within_is P k (args_read body signature) p
 
 with_is : (P : Refusal → Type 0) (asked : Asked) (op : List ℕ) (r : Result (List ℕ) Refusal) → ErrIs P r → ErrIs P (request_with asked op r)
@@ -88,7 +98,7 @@ with_is P asked op (Err refused) p = p
 with_is P asked op (Ok args) p = tt
 
 named_is : (P : Refusal → Type 0) (m : Machine) (k : ℕ) (asked : Asked) (op : Option (List ℕ)) → OfKnown P k → ErrIs P (request_named m k asked op)
-named_is P m k asked None p = p _ _ refl
+named_is P m k asked None p = p _ _ refl tt
 named_is P m k asked (Some op) p = with_is P asked op (args_for k (m.signature op) asked.body) (args_are P k (m.signature op) asked.body p)
 
 pub request_is : (P : Refusal → Type 0) (m : Machine) (c : Common) (host known : ℕ) (asked : Asked) → OfKnown P known → OfKnown P (newest c) →
@@ -145,7 +155,7 @@ on_request_knows m c h host clock asked stop fails le =
     let both = if_known (looks_up h.known asked.version) h.known (newest c) le in
     unless_bad_knows asked.bad_context c h (served_or m c h' host clock stop fails (request_in m c host known asked))
     (knows_more h.known known (served_or m c h' host clock stop fails (request_in m c host known asked)) both.0
-    (served_or_knows m c h' host clock stop fails (request_in m c host known asked) (request_is (λ x. known ≤ x.known.0) m c host known asked (λ d a e. omega arith) (λ d a e. both.1))))
+    (served_or_knows m c h' host clock stop fails (request_in m c host known asked) (request_is (λ x. known ≤ x.known.0) m c host known asked (λ d a e t. omega arith) (λ d a e t. both.1))))
 
 written_knows : (m : Machine) (c : Common) (h : Host) (host clock : ℕ) (fails : Bool) → KnowsOn h.known (checkpoint_written m c h host clock fails)
 written_knows m c h host clock true = λ f. omega arith

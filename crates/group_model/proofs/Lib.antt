@@ -10,4 +10,6 @@ pub mod Viewing
 pub mod Sounding
 pub mod Counting
 pub mod Leaving
+pub mod Sending
+pub mod Answering
 mod Examples

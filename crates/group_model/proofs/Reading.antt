@@ -39,7 +39,7 @@ abbrev pub CanonicalForms : Type 0
 CanonicalForms = (pars : List Par) (place : ℕ) (bytes : List ℕ) → AreValuesAt pars place bytes ↔ AreSpelledAs pars place bytes
 
 -- of what goes well
-abbrev OkIs : {A E : Type 0} → (A → Type 0) → Result A E → Type 0
+abbrev pub OkIs : {A E : Type 0} → (A → Type 0) → Result A E → Type 0
 OkIs P (Ok a) = P a
 OkIs P (Err e) = Unit {0}
 
@@ -97,15 +97,15 @@ named_run : (forms : CanonicalForms) (m : Machine) (k : ℕ) (asked : Asked) (op
 named_run forms m k asked None octets = tt
 named_run forms m k asked (Some op) octets = with_run m asked op (args_for k (m.signature op) asked.body) (args_run forms k (m.signature op) asked.body octets)
 
-unless_run : (m : Machine) (o : Option Refusal) (r : Result Request Refusal) → OkIs (Runs m) r → OkIs (Runs m) (unless_refused o r)
-unless_run m None r so = so
-unless_run m (Some refused) r so = tt
+pub unless_ok : (P : Request → Type 0) (o : Option Refusal) (r : Result Request Refusal) → OkIs P r → OkIs P (unless_refused o r)
+unless_ok P None r so = so
+unless_ok P (Some refused) r so = tt
 
-ok_so : {E : Type 0} (P : Request → Type 0) (r : Result Request E) (q : Request) → r ≡ Ok q → OkIs P r → P q
+pub ok_so : {E : Type 0} (P : Request → Type 0) (r : Result Request E) (q : Request) → r ≡ Ok q → OkIs P r → P q
 ok_so P r q is so = subst (OkIs P) is so
 
 pub requests_run : (forms : CanonicalForms) (m : Machine) (c : Common) (host known : ℕ) (asked : Asked) (q : Request) →
     AllByRecursion (λ b. b < 256) asked.body.bytes → request_in m c host known asked ≡ Ok q → Runs m q
 requests_run forms m c host known asked q octets is =
     ok_so (Runs m) (request_in m c host known asked) q is
-    (unless_run m (refused_by_view c host (asked_version known asked.version) known) (request_named m known asked asked.op) (named_run forms m known asked asked.op octets))
+    (unless_ok (Runs m) (refused_by_view c host (asked_version known asked.version) known) (request_named m known asked asked.op) (named_run forms m known asked asked.op octets))

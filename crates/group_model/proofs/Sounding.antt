@@ -137,11 +137,11 @@ request_sound given m c h host clock asked stop fails s x runs =
     let both = if_known (looks_up h.known asked.version) h.known (newest c) x.known in
     unless_bad_sound m asked.bad_context c h (served_or m c h' host clock stop fails (request_in m c host known asked)) s x
     (served_or_sound given m c h' host clock stop fails (request_in m c host known asked) s (knowing_sound c h known both.1 x)
-    (request_is (λ x. x.known.0 ≤ newest c) m c host known asked (λ d a e. both.1) (λ d a e. omega arith)) (runs known))
+    (request_is (λ x. x.known.0 ≤ newest c) m c host known asked (λ d a e t. both.1) (λ d a e t. omega arith)) (runs known))
 
 -- ---- transfers
 
-taking_sound : (c : Common) (h : Host) → AreNumbers c → IsSoundHost c h → HasCaughtUp (with_ran (length c.journal) c) (taking c h)
+pub taking_sound : (c : Common) (h : Host) → AreNumbers c → IsSoundHost c h → HasCaughtUp (with_ran (length c.journal) c) (taking c h)
 taking_sound c h numbers x = caught_up_sound c (record h { known = newest c }) numbers (knowing_sound c h (newest c) (omega arith) x)
 
 written_sound : (m : Machine) (c : Common) (h : Host) (host clock : ℕ) (fails : Bool) → length c.journal ≤ c.ran → IsSoundCommon m c → IsSoundHost c h →

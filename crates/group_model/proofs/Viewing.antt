@@ -57,7 +57,7 @@ or_false : (a b : Bool) → a ≡ false → b ≡ false → (a || b) ≡ false
 or_false true b e f = absurd cc
 or_false false b e f = f
 
-or_parts : (a b : Bool) → (a || b) ≡ false → (a ≡ false) × (b ≡ false)
+pub or_parts : (a b : Bool) → (a || b) ≡ false → (a ≡ false) × (b ≡ false)
 or_parts true b e = absurd cc
 or_parts false b e = (refl, e)
 
@@ -99,7 +99,7 @@ fewer_without host (x ∷ xs) =
     either_so (λ (l : List ℕ). length l ≤ length (x ∷ xs)) (not (nat_eq x host)) (x ∷ without host xs) (without host xs)
     (λ stays. omega (arith, less)) (λ leaves. omega (arith, less))
 
-all_without : (P : ℕ → Type 0) (host : ℕ) (xs : List ℕ) → AllByRecursion P xs → AllByRecursion P (without host xs)
+pub all_without : (P : ℕ → Type 0) (host : ℕ) (xs : List ℕ) → AllByRecursion P xs → AllByRecursion P (without host xs)
 all_without P host [] all = tt
 all_without P host (x ∷ xs) all =
     either_so (AllByRecursion P) (not (nat_eq x host)) (x ∷ without host xs) (without host xs)
@@ -178,7 +178,7 @@ got_last : (views : List View) (more : View) (k : ℕ) → slice_get (more ∷ v
 got_last [] more k = refl
 got_last (v ∷ views) more k = got_last views v k
 
-newest_there : (views : List View) → 0 < length views → slice_get views (length views - 1) ≡ Some (view_at views (length views))
+pub newest_there : (views : List View) → 0 < length views → slice_get views (length views - 1) ≡ Some (view_at views (length views))
 newest_there [] some = absurd (omega (arith, some))
 newest_there (v ∷ views) some = subst (λ (n : ℕ). slice_get (v ∷ views) n ≡ Some (slice_index_or (v ∷ views) n no_view)) (omega arith) (got_last views v 0)
 

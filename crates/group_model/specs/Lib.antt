@@ -14,3 +14,5 @@ pub mod Openings
 pub mod Runs
 pub mod Counting
 pub mod Laws
+pub mod Sending
+pub mod Answering

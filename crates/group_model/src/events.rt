@@ -104,6 +104,13 @@ impl OutList {
         OutList { items }
     }
 
+    /// What is sent, in order. It takes no memory.
+    pub fn into_vec(self) -> Vec<Out>
+        ensures { result.items ≡ self }
+    {
+        self.items
+    }
+
     /// What is sent, in order.
     pub fn as_slice(&self) -> &[Out]
         ensures { result.now ≡ self.now }

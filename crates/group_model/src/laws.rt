@@ -1,9 +1,11 @@
 //! The laws of a plain group over every list of events that agree. The functions do nothing: their
 //! contracts are facts.
+ghost use Rattle.group_model.specs.Answering.{AnswersAreGiven, RequestsAreReplied, StopsAreTold};
 ghost use Rattle.group_model.specs.Counting.{CallsAreCounted};
 ghost use Rattle.group_model.specs.Laws.{GroupsGrow, RepliesStay, StatesStay, DeposedAppendNothing, AgreementLasts, KnowledgeNeverFalls, GroupsStaySound, RefusalsChangeNothing};
+ghost use Rattle.group_model.specs.Sending.{WhatIsSentAgrees};
 
-use ft_base::{canonical_forms_are_of_values, requests_join};
+use ft_base::{canonical_forms_are_of_values, replies_are_given, requests_join};
 
 /// A group stays sound: each request is accepted at most once before its expiration, ticks of acceptance
 /// never fall, no host is past what has run, the k-th view has version k, and a passive view's primary is
@@ -50,4 +52,26 @@ pub fn calls_are_counted()
 /// A refusal changes nothing but what its host knows, and what catching up moved. So does a repeat.
 pub fn refusals_change_nothing()
     ensures { RefusalsChangeNothing }
+{}
+
+/// What an event sends may come to the host to which it goes: it agrees with the group after the event.
+pub fn what_is_sent_agrees()
+    ensures { WhatIsSentAgrees }
+{}
+
+/// A request that comes to a host that is up is replied to, and no other is. Its answer is an outcome in the
+/// form that its operation gives, a named exception, or the reference of a view that the group has had.
+pub fn answers_are_given()
+    ensures given { AnswersAreGiven }
+    ensures replied { RequestsAreReplied }
+{
+    requests_join();
+    canonical_forms_are_of_values();
+    replies_are_given();
+}
+
+/// A request has a reply without an answer exactly where its host stopped, which then knows nothing, and
+/// has sent nothing.
+pub fn stops_are_told()
+    ensures { StopsAreTold }
 {}
