@@ -1,6 +1,6 @@
 -- An event at its host is an event of the group.
-use Rattle.std.proofs.Common.{◌≡◌, ℕ, suc, zero, ◌+◌, ◌<◌, ◌≤◌, inl, inr, ◌⊎◌, Bool, true, false, List, [], ◌∷◌, set, get_or, length, length-set, refl, sym, subst, ap, ◌∙◌, arith, eq-eqb}
-use Rattle.std.specs.Prelude.{Option, Some, None, nat_eq, slice_get, if◌then◌else◌}
+use Rattle.std.proofs.Common.{◌≡◌, ℕ, suc, zero, ◌<◌, inl, inr, Bool, true, false, List, [], ◌∷◌, set, get_or, length, length-set, refl, sym, subst, ap, ◌∙◌, arith, eq-eqb}
+use Rattle.std.specs.Prelude.{Some, nat_eq, slice_get, if◌then◌else◌}
 use Rattle.std.proofs.lemmas.Bool.{cases_eq}
 use Rattle.std.proofs.lemmas.Bool.Decides.{nat_tests}
 use Rattle.ft_base.specs.Machine.{Machine}
@@ -13,7 +13,7 @@ use Rattle.group_model.specs.Agreeing.{IsSoundHost, IsSound, Agrees}
 use Rattle.group_model.specs.Events.{after_event, host_of, turn_of, shows_fault}
 use Rattle.group_model.specs.Laws.{Grows, GroupsGrow, GroupsStaySound}
 use Rattle.group_model.specs.Lean.{IsLean, nothing, partly, unrun}
-use Rattle.group_model.specs.Plain.{Common, Host, Group, blank, put}
+use Rattle.group_model.specs.Plain.{Host, Group, blank, put}
 use Rattle.group_model.specs.Runs.{Step}
 use Rattle.group_stands.specs.Going.{ReplicasGoOn}
 use Rattle.group_stands.specs.Holding.{HoldbacksGoOn}

@@ -1,11 +1,11 @@
 -- Hosts that take no part in an event go on standing.
-use Rattle.std.proofs.Common.{◌≡◌, ℕ, suc, zero, ◌+◌, ◌<◌, ◌≤◌, inl, inr, ◌⊎◌, max, Bool, true, false, List, [], ◌∷◌, ◌++◌, append-nil, length, length-append, refl, sym, subst, ap, ◌∙◌, arith}
+use Rattle.std.proofs.Common.{◌≡◌, ℕ, ◌<◌, ◌≤◌, max, List, [], ◌∷◌, append-nil, length, length-append, refl, sym, subst, ap, ◌∙◌, arith}
 use Rattle.std.specs.List.{AllByRecursion}
 use Rattle.ft_base.specs.Machine.{Machine}
 use Rattle.ft_base.specs.Laws.{Stays}
 use Rattle.group_model.specs.declared.events.Event.{Event}
 use Rattle.group_model.specs.Agreeing.{IsSoundHost, IsSound, Agrees}
-use Rattle.group_model.specs.Events.{after_event, host_of}
+use Rattle.group_model.specs.Events.{after_event}
 use Rattle.group_model.specs.Laws.{Grows, GroupsGrow, GroupsStaySound}
 use Rattle.group_model.specs.Lean.{IsLean, nothing, partly, unrun}
 use Rattle.group_model.specs.Plain.{Common, Host, Group, with_ran}
@@ -17,11 +17,11 @@ use Rattle.group_hosts.specs.Hosts.{HostPicture, HostStands}
 
 -- ---- one event
 
-one_step : (m : Machine) (g : Group) (step : Step) → after_steps m g (step ∷ []) ≡ after_event m g step.event step.fails
+pub one_step : (m : Machine) (g : Group) (step : Step) → after_steps m g (step ∷ []) ≡ after_event m g step.event step.fails
 unfolding after_steps
 one_step m g step = refl
 
-one_agrees : (m : Machine) (g : Group) (step : Step) → Agrees m step.event g → AllAgree m g (step ∷ [])
+pub one_agrees : (m : Machine) (g : Group) (step : Step) → Agrees m step.event g → AllAgree m g (step ∷ [])
 unfolding AllAgree
 one_agrees m g step agrees = (agrees, tt)
 

@@ -1,8 +1,7 @@
 -- A core at its opening stands for a group at its opening.
 use Rattle.std.proofs.Common.{◌≡◌, ℕ, suc, zero, ◌+◌, ◌<◌, ◌≤◌, Bool, true, false, List, [], ◌∷◌, ◌++◌, length, length-append, refl, sym, subst, ap, ◌∙◌, arith, inl, inr, ◌⊎◌}
-use Rattle.std.specs.Prelude.{Option, Some, None, slice_get, if◌then◌else◌}
+use Rattle.std.specs.Prelude.{Option, Some, slice_get, if◌then◌else◌}
 use Rattle.std.specs.List.{AllByRecursion}
-use Rattle.std.proofs.lemmas.Bool.{cases_eq}
 use Rattle.ft_base.specs.Machine.{Machine}
 use Rattle.ft_base.specs.Members.{AreDifferent, is_member}
 use Rattle.ft_base.specs.Views.{IsView, IsPassivePrimary}
@@ -14,7 +13,7 @@ use Rattle.ft_base.specs.declared.views.View.{View}
 use Rattle.message_log.specs.Calls.{fresh}
 use Rattle.message_log.specs.Picture.{Picture as LogPicture, IsLogged, IsPrimaryOf}
 use Rattle.ft_replica.specs.Picture.{opened as opened_picture}
-use Rattle.group_model.specs.Agreeing.{IsSoundHost, IsSound}
+use Rattle.group_model.specs.Agreeing.{IsSoundHost}
 use Rattle.group_model.specs.Changes.{first_of}
 use Rattle.group_model.specs.Openings.{first_view, opens_loaded, opening_host, opening_common, opening_group}
 use Rattle.group_model.specs.Plain.{Common, Host, blank, nowhere, loaded_at}
@@ -22,7 +21,7 @@ use Rattle.group_stands.specs.Going.{FreshLogsStand, OpenedReplicasStand, Blanks
 use Rattle.group_stands.specs.Holding.{NothingIsHeld}
 use Rattle.group_stands.specs.Stands.{LogStands}
 use Rattle.group_hosts.specs.Hosts.{HostPicture, HostStands, opening_picture}
-use Rattle.group_core.specs.Cores.{CorePicture, Stands}
+use Rattle.group_core.specs.Cores.{Stands}
 use Rattle.group_core.specs.Opening.{AreOpening}
 
 -- ---- the first view

@@ -1,5 +1,5 @@
 -- A run is its events, one after another.
-use Rattle.std.proofs.Common.{◌≡◌, ℕ, suc, zero, ◌+◌, ◌<◌, ◌≤◌, inl, inr, ◌⊎◌, Bool, true, false, List, [], ◌∷◌, ◌++◌, append-nil, length, length-append, refl, sym, subst, ap, ◌∙◌, arith}
+use Rattle.std.proofs.Common.{◌≡◌, ℕ, ◌+◌, inl, inr, true, false, List, [], ◌∷◌, ◌++◌, append-nil, length, length-append, refl, sym, subst, ap, ◌∙◌, arith}
 use Rattle.ft_base.specs.Machine.{Machine}
 use Rattle.ft_base.specs.Laws.{Stays}
 use Rattle.group_model.specs.declared.events.Event.{Event}

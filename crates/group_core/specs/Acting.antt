@@ -4,8 +4,8 @@ use Rattle.ft_base.specs.Machine.{Machine}
 use Rattle.group_model.specs.declared.events.Event.{Event}
 use Rattle.group_model.specs.declared.events.GroupAnswer.{GroupAnswer}
 use Rattle.group_model.specs.declared.events.GroupAnswer.TheVariants.{NoMemory}
-use Rattle.group_model.specs.Events.{turn, turn_of, host_of, after_event, shows_fault}
-use Rattle.group_model.specs.Lean.{IsLean, without_stop}
+use Rattle.group_model.specs.Events.{turn_of, after_event, shows_fault}
+use Rattle.group_model.specs.Lean.{IsLean}
 use Rattle.group_model.specs.Plain.{Group}
 use Rattle.group_core.specs.Cores.{CorePicture, Stands}
 
@@ -17,12 +17,12 @@ pub record IsTaken (machines : ℕ → Machine) (g : Group) (e : Event) (answer 
   pub calls : now ≡ before + (turn_of (machines g.common.kind) g e (shows_fault answer)).calls
 
 -- Memory was wanted: the core stands for a group that this may leave, and the servant was called no more often
--- than by the event without its stop.
+-- than by the event's turn.
 pub record IsShort (machines : ℕ → Machine) (g : Group) (e : Event) (core : CorePicture) (before now : ℕ) : Type 0 where
   pub left : Group
   pub lean : IsLean (machines g.common.kind) g e left
   pub stands : Stands machines core left
-  pub calls : now ≤ before + (turn (machines g.common.kind) g.common (g.hosts (host_of e)) (without_stop e) false).calls
+  pub calls : now ≤ before + (turn_of (machines g.common.kind) g e false).calls
 
 -- The event had the plain group's turn, in which the log's write fails where the answer shows it; or memory was
 -- wanted.

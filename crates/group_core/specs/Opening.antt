@@ -1,5 +1,5 @@
 -- The hosts with which a group opens.
-use Rattle.std.specs.Prelude.{◌≡◌, ℕ, List, length, slice_get, Option, Some, None, Bool, if◌then◌else◌}
+use Rattle.std.specs.Prelude.{◌≡◌, ℕ, List, length, slice_get, Option, Some, None, if◌then◌else◌}
 use Rattle.ft_base.specs.declared.views.Style.{Style}
 use Rattle.ft_base.specs.declared.views.View.{View}
 use Rattle.ft_replica.specs.Picture.{Picture as ReplicaPicture}

@@ -1,8 +1,8 @@
-ghost use Rattle.std.specs.Prelude.{◌≡◌, ◌<◌, ◌≤◌, ℕ, [], Some, Err, false, not, length, slice_get, option_copied, option_map, IfOk, OnOk, OnErr, MatchResult};
+ghost use Rattle.std.specs.Prelude.{◌≡◌, ◌<◌, ◌≤◌, ℕ, [], Some, Err, false, not, length, slice_get, option_copied, option_map, IfOk, IfErr, OnOk, OnErr};
 ghost use Rattle.std.specs.List.{AllByRecursion};
 ghost use Rattle.ft_base.specs.Members.{AreDifferent};
 ghost use Rattle.ft_base.specs.declared.limits.TheConstants.{HOST_LIMIT};
-ghost use Rattle.ft_outside.specs.Keeping.{failing_next, IsForetold};
+ghost use Rattle.ft_outside.specs.Keeping.{failing_next, plan_after, IsForetold};
 ghost use Rattle.message_log.specs.Calls.{IsStarted};
 ghost use Rattle.message_log.specs.Picture.{view_at};
 ghost use Rattle.group_model.specs.Agreeing.{Agrees};
@@ -16,7 +16,8 @@ ghost use Rattle.group_core.specs.Cores.{Stands};
 ghost use Rattle.group_core.specs.Opening.{AreOpening, loaded_replica};
 
 use ft_base::{
-    GroupId, HOST_LIMIT, HostNo, Members, NoMemory, Servant, Steps, Style, Version, View,
+    GroupId, HOST_LIMIT, HostNo, Members, Name, NoMemory, Servant, Signature, Steps, Style,
+    Version, View,
 };
 use ft_outside::{Keeper, MemKeeper};
 use ft_replica::Replica;
@@ -103,9 +104,10 @@ impl<S: Servant + Drop, K: Keeper> GroupCore<S, K> {
         requires empty { K.records keeper ≡ [] }
         requires hosts { AllByRecursion (λ host. host < HOST_LIMIT) members }
         requires different { AreDifferent members }
-        ensures { MatchResult result
-            (λ core. IsForetold (K.plan keeper) false × Stands S.machine core (opening_group group.0 style (S.kind opening) (S.state opening) members))
-            (λ refused. IsStarted (first_view style members) (K.records keeper) (K.records refused.1) (K.plan keeper) (K.plan refused.1) (K.faults keeper) (K.faults refused.1) (Err refused.0)) }
+        ensures stands { IfOk result (λ core. Stands S.machine core (opening_group group.0 style (S.kind opening) (S.state opening) members)) }
+        ensures foretold { IfOk result (λ core. IsForetold (K.plan keeper) false) }
+        ensures planned { IfOk result (λ core. core.log.plan ≡ plan_after (K.plan keeper)) }
+        ensures refused { IfErr result (λ refused. IsStarted (first_view style members) (K.records keeper) (K.records refused.1) (K.plan keeper) (K.plan refused.1) (K.faults keeper) (K.faults refused.1) (Err refused.0)) }
     {
         logs_go_on();
         replicas_go_on();
@@ -157,6 +159,14 @@ impl<S: Servant + Drop, K: Keeper> GroupCore<S, K> {
             event,
             steps,
         )
+    }
+
+    /// What the group's servant says of an operation: its parameters and its result; none where it has no
+    /// such operation.
+    pub fn signature(&self, op: &Name) -> Option<Signature>
+        ensures { result ≡ (S.machine self.now.kind).signature op.now }
+    {
+        self.opening.signature(op)
     }
 
     /// How the group's members share its work.

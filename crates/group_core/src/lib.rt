@@ -5,9 +5,13 @@
 #![tactic(auto)]
 
 mod cores;
+mod laws;
 mod running;
 #[cfg(test)]
 mod tests;
+#[cfg(test)]
+mod trials;
 
 pub use cores::GroupCore;
+pub use laws::{cores_tell, unfailing_logs_show_no_fault};
 pub use running::run;

@@ -36,7 +36,7 @@ use Rattle.group_hosts.specs.declared.entering.Entered.{Entered}
 use Rattle.group_hosts.specs.declared.entering.Entered.TheVariants.{Done, Short, Unrun}
 use Rattle.group_hosts.proofs.Hears.{put-same, up_is, forgot}
 use Rattle.group_hosts.proofs.Holds.{sound_of, with_ran-same, all_numbers}
-use Rattle.group_hosts.proofs.Shapes.{IsShaped, going, ended, shaped, whole, one_call}
+use Rattle.group_hosts.proofs.Shapes.{IsShaped, going, ended, shaped, whole, calls_new}
 
 module _ (machines : ℕ → Machine) (g : Group) (s : Shared) (host : HostNo) (p : HostPicture) (here : IsHere machines g.common (g.hosts host.0) s p)
     (clock : Tick) (asked : Asked) (stop : Stop) (is_up : p.up ≡ true) where
@@ -184,7 +184,7 @@ module _ (machines : ℕ → Machine) (g : Group) (s : Shared) (host : HostNo) (
           host = subst (λ (x : Host). HostStands machines (with_ran n c) (after now.replica now.held) x) (sym (put-same g.hosts host.0 there)) stands;
           sound = subst (λ (x : Host). IsSoundHost (with_ran n c) x) (sym (put-same g.hosts host.0 there))
               (sound_of machines (with_ran n c) _ there stands few (λ no. let e : true ≡ false = sym come.loaded ∙ no in absurd cc) (λ passive. ap (from n) (here.sound.passive passive)));
-          calls = subst (λ (t : Turn). now.steps ≤ before.steps + t.calls) (sym whole_is) (omega (arith, stopped.calls));
+          calls = subst (λ (t : Turn). now.steps ≤ before.steps + t.calls) (sym (passed_turn stop false)) (omega (arith, stopped.calls));
         }
 
     pub short_taken : (before now : Parts) → before ≡ parts s.log p.replica p.held before.steps → IsEntered machines c h' host.0 clock.0 request stop Short before now →
@@ -198,7 +198,7 @@ module _ (machines : ℕ → Machine) (g : Group) (s : Shared) (host : HostNo) (
         IsTurn machines g (events.Request host clock asked stop) answers.NoMemory before.steps (seen now.log (settled Unrun (after now.replica now.held)) now.steps)
     unrun_taken blanks nothing before now unrun =
         let d = record (joined c (max clock.0 c.time) request) { ran = length c.journal } in
-        let calls = one_call (machines c.kind) (with_ran (length c.journal) c) (caught_up c h') host.0 clock.0 request unrun.new in
+        let calls = calls_new (machines c.kind) (with_ran (length c.journal) c) (caught_up c h') host.0 clock.0 request stop unrun.new in
         let stands = forgot machines g s host p here blanks nothing d now.replica true unrun.stand.replica.kind in
         record {
           left = record { common = d; hosts = put g.hosts host.0 (blank true) };
@@ -213,7 +213,7 @@ module _ (machines : ℕ → Machine) (g : Group) (s : Shared) (host : HostNo) (
           log = unrun.stand.log;
           host = subst (λ (x : Host). HostStands machines d (forgotten true (after now.replica now.held)) x) (sym (put-same g.hosts host.0 (blank true))) stands;
           sound = subst (λ (x : Host). IsSoundHost d x) (sym (put-same g.hosts host.0 (blank true))) (record { known = omega arith; base = omega arith; position = omega arith; unloaded = λ no. (refl, refl); held = tt; passive = λ passive. refl });
-          calls = subst (λ (t : Turn). now.steps ≤ before.steps + t.calls) (sym whole_is) (omega (arith, unrun.calls, calls));
+          calls = subst (λ (t : Turn). now.steps ≤ before.steps + t.calls) (sym (passed_turn stop false)) (omega (arith, unrun.calls, calls));
         }
 
     -- whatever came of it

@@ -1,5 +1,5 @@
 -- What the plain group's turns leave of their host.
-use Rattle.std.proofs.Common.{◌≡◌, ℕ, ◌≤◌, max, Bool, true, false, [], length, refl, ap, arith}
+use Rattle.std.proofs.Common.{◌≡◌, ℕ, ◌≤◌, max, Bool, true, false, [], length, refl, ap, ◌∙◌, arith}
 use Rattle.std.specs.Prelude.{Some, None, List, ◌&&◌, if◌then◌else◌}
 use Rattle.ft_base.specs.Members.{is_member}
 use Rattle.ft_base.specs.declared.views.Style.{Style}
@@ -17,6 +17,7 @@ use Rattle.group_model.specs.Openings.{opens_loaded, opening_host}
 use Rattle.group_model.specs.Plain.{Common, Host, blank, loaded_at, nowhere}
 use Rattle.group_model.specs.Serving.{accepted, written, admitted, served}
 use Rattle.group_model.specs.Turns.{Turn}
+use Rattle.passive_dispatch.specs.Served.{calls_by}
 use Rattle.group_hosts.specs.Hosts.{opening_replica, opening_picture}
 
 -- what holds of both turns holds of the one that is chosen
@@ -86,9 +87,16 @@ whole_admitted m c h host now q New end = record { known = refl; loaded = refl; 
 pub whole : (m : Machine) (c : Common) (h : Host) (host clock : ℕ) (q : Request) → h.place.position ≡ length c.journal → IsWhole h (served m c h host clock q Never false)
 whole m c h host clock q end = whole_admitted m c h host (max clock c.time) q (admission c.journal (max clock c.time) q) end
 
--- a new request is run once
-pub one_call : (m : Machine) (c : Common) (h : Host) (host clock : ℕ) (q : Request) → admission c.journal (max clock c.time) q ≡ New → (served m c h host clock q Never false).calls ≡ 1
-one_call m c h host clock q new = ap (λ (a : Admission). (admitted m c h host (max clock c.time) q Never false a).calls) new
+-- ---- the servant calls of a new request
+
+calls_accepted : (m : Machine) (c : Common) (h : Host) (host now : ℕ) (q : Request) (stop : Stop) → (accepted m c h host now q stop).calls ≡ calls_by stop
+calls_accepted m c h host now q Never = refl
+calls_accepted m c h host now q AfterAppend = refl
+calls_accepted m c h host now q AfterExecute = refl
+
+pub calls_new : (m : Machine) (c : Common) (h : Host) (host clock : ℕ) (q : Request) (stop : Stop) → admission c.journal (max clock c.time) q ≡ New → (served m c h host clock q stop false).calls ≡ calls_by stop
+calls_new m c h host clock q stop new =
+    ap (λ (a : Admission). (admitted m c h host (max clock c.time) q stop false a).calls) new ∙ calls_accepted m c h host (max clock c.time) q stop
 
 -- ---- a host as its group opens
 

@@ -86,8 +86,9 @@ module _ (machines : ℕ → Machine) (g : Group) (s : Shared) (e : Event) (p : 
   abbrev whole : Turn
   whole = turn (machines shares.kind) shares own (leans.without_stop e) false
 
-  -- an event that has its host know the newest view and catch up, whatever comes then
+  -- an event without a stop that has its host know the newest view and catch up, whatever comes then
   pub record IsTaking (t : Turn) : Type 0 where
+    pub stopless : leans.without_stop e ≡ e
     pub catches_up : leans.CatchesUp e
     pub turn : whole ≡ costing (calls_behind shares own) t
     pub known : t.host.known ≡ newest shares
@@ -95,8 +96,10 @@ module _ (machines : ℕ → Machine) (g : Group) (s : Shared) (e : Event) (p : 
     pub further : length shares.journal ≤ t.host.place.position
 
   module _ (t : Turn) (is : IsTaking t) (before now : ℕ) (calls : now ≤ before + calls_behind shares own) where
-    enough : now ≤ before + whole.calls
-    enough = subst (λ (x : Turn). now ≤ before + x.calls) (sym is.turn) (omega (arith, calls))
+    enough : now ≤ before + (turn (machines shares.kind) shares own e false).calls
+    enough =
+        subst (λ (x : Event). now ≤ before + (turn (machines shares.kind) shares own x false).calls) is.stopless
+        (subst (λ (x : Turn). now ≤ before + x.calls) (sym is.turn) (omega (arith, calls)))
 
     knows_newest : whole.host.known ≡ newest shares
     knows_newest = ap (λ (x : Turn). x.host.known) is.turn ∙ is.known
@@ -156,6 +159,7 @@ module _ (machines : ℕ → Machine) (g : Group) (s : Shared) (host : HostNo) (
 
   pub checkpoint_takes : (clock : Tick) → IsTaking machines g s (events.Checkpoint host clock) p here (checkpoint_written (machines c.kind) d (taking c h) host.0 clock.0 false)
   checkpoint_takes clock = record {
+    stopless = refl;
     catches_up = tt;
     turn = up_is machines g s host p here (on_checkpoint (machines c.kind) c h host.0 clock.0 false) up;
     known = refl;
@@ -165,6 +169,7 @@ module _ (machines : ℕ → Machine) (g : Group) (s : Shared) (host : HostNo) (
 
   pub update_takes : IsTaking machines g s (events.SendUpdate host) p here (update_taken (machines c.kind) d (taking c h) host.0)
   update_takes = record {
+    stopless = refl;
     catches_up = tt;
     turn = up_is machines g s host p here (on_send_update (machines c.kind) c h host.0) up;
     known = refl;

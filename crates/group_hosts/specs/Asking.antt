@@ -20,6 +20,7 @@ use Rattle.group_model.specs.Serving.{joined, calls_behind, served_caught_up}
 use Rattle.group_model.specs.Turns.{Turn}
 use Rattle.group_stands.specs.Holding.{HeldOrder, HoldStands}
 use Rattle.group_stands.specs.Stands.{LogStands, ReplicaStands, OpeningStands}
+use Rattle.passive_dispatch.specs.Served.{calls_by}
 use Rattle.group_hosts.specs.Hosts.{HostPicture, forgotten}
 use Rattle.group_hosts.specs.Keeping.{WroteBy, WroteNothing, Wrote}
 use Rattle.group_hosts.specs.declared.entering.Entered.{Entered}
@@ -81,16 +82,16 @@ pub record IsAnswered (machines : ℕ → Machine) (t : Turn) (decision : Decisi
   pub calls : now.steps ≡ before + t.calls
 
 -- the request was new and joined, and no memory was found to run it, or for the copy of its outcome
-pub record HasJoinedUnrun (machines : ℕ → Machine) (c : Common) (h : Host) (clock : ℕ) (request : Request) (before : ℕ) (now : Parts) : Type 0 where
+pub record HasJoinedUnrun (machines : ℕ → Machine) (c : Common) (h : Host) (clock : ℕ) (request : Request) (stop : Stop) (before : ℕ) (now : Parts) : Type 0 where
   pub new : admission c.journal (max clock c.time) request ≡ New
   pub stand : PartsStand machines (record (joined c (max clock c.time) request) { ran = length c.journal }) (blank true) now
-  pub calls : now.steps ≤ before + (calls_behind c h + 1)
+  pub calls : now.steps ≤ before + (calls_behind c h + calls_by stop)
 
 abbrev pub IsEntered : (ℕ → Machine) → Common → Host → ℕ → ℕ → Request → Stop → Entered → Parts → Parts → Type 0
 IsEntered machines c h host clock request stop (Done decision answer out) before now =
     IsAnswered machines (served_caught_up (machines c.kind) c h host clock request stop (is_log_fault decision)) decision answer out before.steps now
 IsEntered machines c h host clock request stop Short before now = HasStopped machines c h before now
-IsEntered machines c h host clock request stop Unrun before now = HasJoinedUnrun machines c h clock request before.steps now
+IsEntered machines c h host clock request stop Unrun before now = HasJoinedUnrun machines c h clock request stop before.steps now
 
 abbrev pub WroteEntered : Entered → LogPicture → LogPicture → Type 0
 WroteEntered (Done decision answer out) old new = WroteBy decision old new

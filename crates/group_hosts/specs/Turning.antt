@@ -6,8 +6,8 @@ use Rattle.group_model.specs.declared.events.Event.{Event}
 use Rattle.group_model.specs.declared.events.GroupAnswer.{GroupAnswer}
 use Rattle.group_model.specs.declared.events.GroupAnswer.TheVariants.{NoMemory}
 use Rattle.group_model.specs.Agreeing.{IsSoundHost}
-use Rattle.group_model.specs.Events.{turn, turn_of, host_of, shows_fault}
-use Rattle.group_model.specs.Lean.{IsLean, without_stop}
+use Rattle.group_model.specs.Events.{turn_of, host_of, shows_fault}
+use Rattle.group_model.specs.Lean.{IsLean}
 use Rattle.group_model.specs.Plain.{Group}
 use Rattle.group_model.specs.Turns.{Turn}
 use Rattle.group_stands.specs.Stands.{LogStands}
@@ -30,14 +30,14 @@ pub record IsTaken (machines : ℕ → Machine) (t : Turn) (answer : GroupAnswer
   pub calls : now.steps ≡ before + t.calls
 
 -- Memory was wanted: log and host are those of a group that this may leave, which is sound, and the servant was
--- called no more often than by the event without its stop.
+-- called no more often than by the event's turn.
 pub record IsShort (machines : ℕ → Machine) (g : Group) (e : Event) (before : ℕ) (now : Seen) : Type 0 where
   pub left : Group
   pub lean : IsLean (machines g.common.kind) g e left
   pub log : LogStands machines left.common now.log
   pub host : HostStands machines left.common now.host (left.hosts (host_of e))
   pub sound : IsSoundHost left.common (left.hosts (host_of e))
-  pub calls : now.steps ≤ before + (turn (machines g.common.kind) g.common (g.hosts (host_of e)) (without_stop e) false).calls
+  pub calls : now.steps ≤ before + (turn_of (machines g.common.kind) g e false).calls
 
 -- The event had the plain group's turn, in which the log's write fails where the answer shows it; or memory was
 -- wanted.

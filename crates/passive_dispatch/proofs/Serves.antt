@@ -29,7 +29,7 @@ use Rattle.group_model.specs.Turns.{Turn, unchanged}
 use Rattle.group_stands.specs.Stands.{LogStands, ReplicaStands}
 use Rattle.group_stands.specs.Going.{HasRun, EntriesRun, BlanksStand, LogsGoOnBeside, ReplicasGoOnJoined, RequestsJoin}
 use Rattle.group_stands.specs.Telling.{LogsAdmit, CaughtUpHasRun, CaughtUpRepeats, IsSaid}
-use Rattle.passive_dispatch.specs.Served.{Seen, CanServe, CanRun, HasJoined, IsTurn, IsUnrun, IsRun, IsServed, IsTold, IsWritten, IsWrittenAs, IsDecided, shows_fault}
+use Rattle.passive_dispatch.specs.Served.{Seen, CanServe, CanRun, HasJoined, IsTurn, IsUnrun, IsRun, IsServed, IsTold, IsWritten, IsWrittenAs, IsDecided, shows_fault, calls_by}
 use Rattle.passive_dispatch.specs.declared.serving.Served.{Served}
 use Rattle.passive_dispatch.specs.declared.serving.Served.TheVariants.{Done, NoMemory}
 
@@ -106,9 +106,9 @@ module _ (joining : ReplicasGoOnJoined) (blanks : BlanksStand) (machines : ℕ �
         calls = steps;
       }
 
-  pub unrun : (place : Place) (before now : Seen) (replica : ReplicaPicture) → HasJoined machines c place clock request before →
-      now.log ≡ before.log → replica.kind ≡ before.replica.kind → now.replica ≡ blanked replica → now.steps ≡ before.steps + 1 → IsUnrun machines c clock request before.steps now
-  unrun place before now replica has log kind is steps = record {
+  pub unrun : (place : Place) (stop : Stop) (before now : Seen) (replica : ReplicaPicture) → HasJoined machines c place clock request before →
+      now.log ≡ before.log → replica.kind ≡ before.replica.kind → now.replica ≡ blanked replica → now.steps ≡ before.steps + calls_by stop → IsUnrun machines c clock request stop before.steps now
+  unrun place stop before now replica has log kind is steps = record {
     log = subst (LogStands machines after) (sym log) has.log;
     replica = blank_of c.kind replica now.replica after is (kind ∙ has.replica.kind) refl;
     calls = steps;
@@ -195,7 +195,7 @@ pub new_served : (machines : ℕ → Machine) (c : Common) (h : Host) (host cloc
     admission c.journal (max clock c.time) request ≡ New → middle.steps ≡ before.steps → IsDecided (decisions.Append position) s →
     IsRun machines c h host clock request stop s middle now → IsServed machines c h host clock request stop s before now
 new_served machines c h host clock position request stop NoMemory before middle now new steps decided ran =
-    inr (new, subst (λ (n : ℕ). IsUnrun machines c clock request n now) steps ran)
+    inr (new, subst (λ (n : ℕ). IsUnrun machines c clock request stop n now) steps ran)
 new_served machines c h host clock position request stop (Done d x) before middle now new steps decided ran =
     let no : shows_fault d ≡ false = ap shows_fault decided in
     let turn : served (machines c.kind) c h host clock request stop (shows_fault d) ≡ accepted (machines c.kind) c h host (max clock c.time) request stop =

@@ -4,6 +4,7 @@ use Rattle.ft_base.specs.Machine.{Machine, Fits}
 use Rattle.ft_base.specs.declared.decisions.Decision.{Decision}
 use Rattle.ft_base.specs.declared.decisions.Decision.TheVariants as decisions
 use Rattle.ft_base.specs.declared.decisions.Stop.{Stop}
+use Rattle.ft_base.specs.declared.decisions.Stop.TheVariants.{Never, AfterAppend, AfterExecute}
 use Rattle.ft_base.specs.declared.limits.TheConstants.{ARGUMENTS_LIMIT}
 use Rattle.ft_base.specs.declared.numbers.Tick.{Tick}
 use Rattle.ft_base.specs.declared.numbers.Version.{Version}
@@ -57,11 +58,17 @@ pub record IsTurn (machines : ℕ → Machine) (t : Turn) (decision : Decision) 
   pub told : t.answer ≡ Reply decision answer out
   pub calls : now.steps ≡ before + t.calls
 
+-- how often the servant is called for a request that joins, by where its host stops
+abbrev pub calls_by : Stop → ℕ
+calls_by Never = 1
+calls_by AfterAppend = 0
+calls_by AfterExecute = 1
+
 -- the request joined, no memory was found to run it or for the copy of its outcome, and the replica is blank
-pub record IsUnrun (machines : ℕ → Machine) (c : Common) (clock : ℕ) (request : Request) (before : ℕ) (now : Seen) : Type 0 where
+pub record IsUnrun (machines : ℕ → Machine) (c : Common) (clock : ℕ) (request : Request) (stop : Stop) (before : ℕ) (now : Seen) : Type 0 where
   pub log : LogStands machines (joined c (max clock c.time) request) now.log
   pub replica : ReplicaStands machines (joined c (max clock c.time) request) now.replica nowhere
-  pub calls : now.steps ≡ before + 1
+  pub calls : now.steps ≡ before + calls_by stop
 
 -- whether a decision shows that the log's write failed
 abbrev pub shows_fault : Decision → Bool
@@ -74,13 +81,13 @@ abbrev pub IsServed : (ℕ → Machine) → Common → Host → ℕ → ℕ → 
 IsServed machines c h host clock request stop (Done decision answer) before now =
     IsTurn machines (served (machines c.kind) c h host clock request stop (shows_fault decision)) decision answer before.steps now
 IsServed machines c h host clock request stop NoMemory before now =
-    (now ≡ before) ⊎ ((admission c.journal (max clock c.time) request ≡ New) × IsUnrun machines c clock request before.steps now)
+    (now ≡ before) ⊎ ((admission c.journal (max clock c.time) request ≡ New) × IsUnrun machines c clock request stop before.steps now)
 
 -- the same of a request that has joined the journal
 abbrev pub IsRun : (ℕ → Machine) → Common → Host → ℕ → ℕ → Request → Stop → Served → Seen → Seen → Type 0
 IsRun machines c h host clock request stop (Done decision answer) before now =
     IsTurn machines (accepted (machines c.kind) c h host (max clock c.time) request stop) decision answer before.steps now
-IsRun machines c h host clock request stop NoMemory before now = IsUnrun machines c clock request before.steps now
+IsRun machines c h host clock request stop NoMemory before now = IsUnrun machines c clock request stop before.steps now
 
 -- it is the journal's last entry, which nobody has run, and the replica has run all before it
 pub record HasJoined (machines : ℕ → Machine) (c : Common) (place : Place) (clock : ℕ) (request : Request) (now : Seen) : Type 0 where

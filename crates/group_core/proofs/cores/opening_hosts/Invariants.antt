@@ -1,4 +1,3 @@
-use Rattle.std.proofs.Common.{◌≡◌}
 use Rattle.group_core.specs.Opening.{AreOpening}
 use Rattle.group_core.proofs.cores.opening_hosts.Given as goal
 

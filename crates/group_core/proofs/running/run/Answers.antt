@@ -1,7 +1,7 @@
-use Rattle.std.proofs.Common.{◌≡◌, ℕ, ◌++◌, ◌∷◌, List, [], Bool, true, false, sym, ap, ◌∙◌, subst, length}
+use Rattle.std.proofs.Common.{◌≡◌, ◌++◌, ◌∷◌, List, [], true, false, sym, ap, ◌∙◌, subst}
 use Rattle.group_model.specs.declared.events.Event.{Event}
 use Rattle.group_model.specs.declared.events.GroupAnswer.{GroupAnswer}
-use Rattle.group_core.specs.Running.{AlwaysAgree, HasRun, HasStopped, is_short}
+use Rattle.group_core.specs.Running.{AlwaysAgree, HasStopped, is_short}
 use Rattle.group_core.proofs.Runs.{goes_on, none_run, here, agrees_here, one_run, stopped_between, stopped_within, event_between}
 use Rattle.group_core.proofs.running.run.Goals as goal
 

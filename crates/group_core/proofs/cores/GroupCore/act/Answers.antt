@@ -1,4 +1,4 @@
-use Rattle.std.proofs.Common.{◌≡◌, ◌<◌, ℕ, length, ap, sym, ◌∙◌, arith}
+use Rattle.std.proofs.Common.{◌≡◌, ◌<◌, length, arith}
 use Rattle.group_model.specs.Events.{host_of}
 use Rattle.group_core.proofs.Acts.{acted, slice_get-read}
 use Rattle.group_core.proofs.cores.GroupCore.act.Goals as goal
