@@ -12,7 +12,7 @@ use Rattle.client_retry.specs.Attempts.{at_first, at_fault}
 use Rattle.client_retry.specs.Invocations.{Invocation, meanings_of, reference_of, faults_of, last_id_of, meaning_of, with_news, sent, sent_over, by_meaning, answer}
 use Rattle.client_retry.specs.Clients.{Client, Idle, Busy, last_of, after, begun}
 use Rattle.client_retry.specs.Counters.{Picture, kept}
-use Rattle.client_retry.specs.Laws.{id_of, IsNextId, IdsBegin, IdsGoOn, HasReference, ReferenceStays}
+use Rattle.client_retry.specs.Laws.{id_of, IsNextId, IdsBegin, IdsGoOn, IdsStay, HasReference, ReferenceStays}
 use Rattle.client_retry.proofs.CountingLaws.{id_after_fault, id_after_newer, id_stays, left_of, left_is}
 
 last_kept : (client : Client) → (kept client).last ≡ last_of client
@@ -52,6 +52,10 @@ begin_id last reference expiration (Err end) = refl
 
 pub begin : IdsBegin
 begin client reference expiration = begin_id (last_of client) reference expiration (at_first reference (last_of client))
+
+pub stay : IdsStay
+stay (Idle last reference) = refl
+stay (Busy i) = refl
 
 -- ---- the reference
 

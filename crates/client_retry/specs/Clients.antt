@@ -40,6 +40,13 @@ starting client reference expiration =
     let act = sent (last_of client) (at_first reference (last_of client)) in
     record { client = after (begun (last_of client) reference expiration) (last_of client) act; act = act }
 
+-- ---- between two invocations it gives its reference away
+
+-- an open invocation goes on over its reference
+abbrev pub setting_down : Client → Client
+setting_down (Idle last reference) = Idle last None
+setting_down (Busy i) = Busy i
+
 -- ---- news come
 
 abbrev pub hearing : Client → News → Turn

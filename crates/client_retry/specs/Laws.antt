@@ -5,7 +5,7 @@ use Rattle.iogr_reference.specs.declared.references.GroupRef.{GroupRef}
 use Rattle.client_retry.specs.declared.answers.Act.{Act}
 use Rattle.client_retry.specs.declared.answers.Act.TheVariants.{Send, Adopted, Done, Nothing}
 use Rattle.client_retry.specs.Invocations.{News}
-use Rattle.client_retry.specs.Clients.{Client, last_of, starting, hearing}
+use Rattle.client_retry.specs.Clients.{Client, last_of, starting, setting_down, hearing}
 use Rattle.client_retry.specs.Counters.{kept}
 
 -- the id of the attempt that is made, if one is
@@ -28,7 +28,11 @@ abbrev pub IdsGoOn : Type 0
 IdsGoOn = (client : Client) (news : News)
     → IsNextId (last_of client) (id_of (hearing client news).act) (last_of (hearing client news).client)
 
--- a client has a reference from its first start on
+-- no id is lost with a reference that is given away
+abbrev pub IdsStay : Type 0
+IdsStay = (client : Client) → last_of (setting_down client) ≡ last_of client
+
+-- a client has a reference once it has started
 abbrev pub HasReference : Type 0
 HasReference = (client : Client) (reference : GroupRef) (expiration : Tick)
     → is_some (kept (starting client reference expiration).client).reference ≡ true

@@ -1,6 +1,6 @@
-ghost use Rattle.std.specs.Prelude.{◌≡◌, option_copied, is_some, IsTrue, false};
+ghost use Rattle.std.specs.Prelude.{◌≡◌, option_copied, is_some, IsTrue, None, false};
 ghost use Rattle.client_retry.specs.Invocations.{Reply, Silence};
-ghost use Rattle.client_retry.specs.Clients.{Client, new_client, starting, hearing};
+ghost use Rattle.client_retry.specs.Clients.{Client, new_client, starting, setting_down, hearing};
 ghost use Rattle.client_retry.specs.Counters.{StandsFor, counting, counting_start, read};
 
 use crate::answers::{Act, End, Heard};
@@ -72,6 +72,16 @@ impl ClientCore {
         ensures stands { (client : Client) → StandsFor client self.old → StandsFor (starting client reference expiration).client self.new }
     {
         self.begin(reference, expiration)
+    }
+
+    /// Gives away the reference that it goes by, between two invocations. It keeps its last request id.
+    pub fn take_reference(&mut self) -> Option<GroupRef>
+        requires { is_some self.old.progress ≡ false }
+        ensures reference { result ≡ self.old.reference }
+        ensures core { self.new ≡ record self.old { reference = None } }
+        ensures stands { (client : Client) → StandsFor client self.old → StandsFor (setting_down client) self.new }
+    {
+        self.reference.take()
     }
 
     /// A reply to the request with this id came at this moment.

@@ -108,6 +108,9 @@ fn ends_without_a_reply(rt: HostRuntime) -> Result<(), Fail> {
     assert!(rt; !client.is_open());
     let empty = client.start(group(rt.alloc(), 1, 0, None)?, Tick(10));
     assert!(rt; shown(&empty) == ("transient", 0, 0));
+    assert!(rt; !client.is_open());
+    let given = client.take_reference();
+    assert!(rt; given.is_some() && client.reference().is_none());
     Ok(())
 }
 

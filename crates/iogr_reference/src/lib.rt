@@ -35,5 +35,5 @@ pub use reading::{read_ior, read_profile};
 pub use references::{Component, GroupRef, GroupTag, Iiop, Ior, Profile};
 pub use tags::{GROUP_TAG, IIOP_TAG, PRIMARY_TAG};
 pub use texts::{from_text, to_text};
-pub use views::ref_of;
+pub use views::{member_components, ref_of};
 pub use writing::write_ior;

@@ -71,7 +71,8 @@ fn primary_component(alloc: Global) -> Result<Component, NoMemory>
     })
 }
 
-fn components_for(
+/// The components of a member's profile: the group's, and the primary's where it is the primary.
+pub fn member_components(
     alloc: Global,
     group: GroupId,
     version: Version,
@@ -132,7 +133,7 @@ fn member_bytes(
     ensures bytes { IfOk result (λ bytes. bytes ≡ encapsulated orders.Big iiop (member_iiop group version port is_primary)) }
     ensures short { IfOk result (λ bytes. length bytes + 8 < 2 ^ 32) }
 {
-    let components = components_for(alloc, group, version, is_primary)?;
+    let components = member_components(alloc, group, version, is_primary)?;
     let key = object_key(alloc, group)?;
     let mut writer = begin_encapsulation(alloc, Order::Big)?;
     write_member(port, key.bytes(), components.as_slice(), &mut writer)?;

@@ -1,0 +1,4 @@
+pub mod Clients
+pub mod Happenings
+pub mod Pictures
+pub mod Laws
