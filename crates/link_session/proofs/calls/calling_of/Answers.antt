@@ -1,0 +1,5 @@
+use Rattle.link_session.proofs.Spelled.{spelled_short}
+use Rattle.link_session.proofs.calls.calling_of.Goals as goal
+
+pub message_calling-requires : goal.message_calling-requires
+message_calling-requires c = spelled_short c.messages_are_within.ensures c.args.received c.requires

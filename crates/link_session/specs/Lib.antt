@@ -1,0 +1,8 @@
+pub mod Amid
+pub mod Answers
+pub mod Asked
+pub mod Calls
+pub mod Ports
+pub mod References
+pub mod Samples
+pub mod Stepping

@@ -1,0 +1,58 @@
+-- A message that comes to whatever answers requests, where what it does is a relation: others may ask it too.
+use Rattle.std.specs.Prelude.{◌≡◌, ℕ, Bool, List, Option, Some, None}
+use Rattle.std.proofs.Common.{sym, ap, ◌∙◌}
+use Rattle.cdr_codec.specs.declared.orders.Order.{Order}
+use Rattle.giop_messages.specs.declared.messages.Message.{Message}
+use Rattle.group_model.specs.declared.asking.Asked.{Asked}
+use Rattle.host_server.specs.declared.answers.PortAnswer.{PortAnswer}
+use Rattle.link_session.specs.declared.calls.Calling.{Calling}
+use Rattle.link_session.specs.declared.calls.Calling.TheVariants.{Ask, Locate, Nothing}
+use Rattle.link_session.specs.Calls.{calling_of}
+use Rattle.link_session.specs.Ports.{Port, answered, called, locate_reply_of, reply_of, step, writes}
+
+-- from one state to another a request with this object key is answered so
+abbrev pub Asking : Type 0 → Type 1
+Asking P = P → List ℕ → Asked → P → PortAnswer → Type 0
+
+-- from one state to another the object with this key is found, or not
+abbrev pub Finding : Type 0 → Type 1
+Finding P = P → List ℕ → P → Bool → Type 0
+
+pub record IsAnswered {P : Type 0} (asks : Asking P) (id flags : ℕ) (order : Order) (key : List ℕ) (asked : Asked) (old new : P) (bytes : Option (List ℕ)) : Type 0 where
+  pub answer : PortAnswer
+  pub so : asks old key asked new answer
+  pub written : bytes ≡ reply_of id flags order answer
+
+pub record IsLocated {P : Type 0} (finds : Finding P) (id : ℕ) (order : Order) (key : List ℕ) (old new : P) (bytes : Option (List ℕ)) : Type 0 where
+  pub here : Bool
+  pub so : finds old key new here
+  pub written : bytes ≡ Some (locate_reply_of id order here)
+
+-- what is called for is done, and these bytes are to be written
+abbrev pub IsCalled : {P : Type 0} → Asking P → Finding P → Order → Calling → P → P → Option (List ℕ) → Type 0
+IsCalled asks finds order (Ask id flags key asked) old new bytes = IsAnswered asks id flags order key asked old new bytes
+IsCalled asks finds order (Locate id key) old new bytes = IsLocated finds id order key old new bytes
+IsCalled asks finds order Nothing old new bytes = (new ≡ old) × (bytes ≡ None)
+
+-- ---- where a port is a function
+
+abbrev pub asks_of : {P : Type 0} → Port P → Asking P
+asks_of {P} port old key asked new answer = ◌≡◌ {A = P × PortAnswer} (port.ask old key asked) (new, answer)
+
+abbrev pub finds_of : {P : Type 0} → Port P → Finding P
+finds_of port old key new here = (new ≡ old) × (here ≡ port.here old key)
+
+-- then what is done is the port's step
+called_so : {P : Type 0} (port : Port P) (order : Order) (c : Calling) (old new : P) (bytes : Option (List ℕ)) →
+    IsCalled (asks_of port) (finds_of port) order c old new bytes → writes port new bytes ≡ called port old order c
+called_so port order (Ask id flags key asked) old new bytes a =
+    ap (λ (o : Option (List ℕ)). writes port new o) a.written ∙ sym (ap (answered port id flags order) a.so)
+called_so port order (Locate id key) old new bytes l =
+    ap (λ (o : Option (List ℕ)). writes port new o) l.written
+    ∙ ap (λ (b : Bool). port.write new (locate_reply_of id order b)) l.so.1
+    ∙ ap (λ q. port.write q (locate_reply_of id order (port.here old key))) l.so.0
+called_so port order Nothing old new bytes n = ap (λ (o : Option (List ℕ)). writes port new o) n.1 ∙ n.0
+
+pub is_step : {P : Type 0} (port : Port P) (message : Message) (order : Order) (old new : P) (bytes : Option (List ℕ)) →
+    IsCalled (asks_of port) (finds_of port) order (calling_of message) old new bytes → writes port new bytes ≡ step port old message order
+is_step port message order old new bytes is = called_so port order (calling_of message) old new bytes is
