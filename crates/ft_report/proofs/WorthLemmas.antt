@@ -48,6 +48,14 @@ not_refused par bytes r why wrong form is bad h =
     let there : (param par).read r ≡ Err (fault wrong) = subst (λ (f : FieldFault). Fails (field_fault f) ((param par).read r)) bad h in
     is_not_refused par bytes (fault wrong) form (subst (λ (q : Reader). (param par).read q ≡ Err (fault wrong)) is there)
 
+-- what is no value is void
+pub value_lacks : (par : Par) (bytes : List ℕ) (r : Reader) (why : FieldFault) (wrong : CdrFault)
+    → r ≡ reader_at Big 0 bytes → why ≡ Bad wrong → Fails (field_fault why) ((param par).read r) → Void ≡ worth_in (Some par) bytes
+unfolding worth_in
+value_lacks par bytes r why wrong is bad h =
+    let there : (param par).read r ≡ Err (fault wrong) = subst (λ (f : FieldFault). Fails (field_fault f) ((param par).read r)) bad h in
+    sym (ap worth_read (subst (λ (q : Reader). (param par).read q ≡ Err (fault wrong)) is there))
+
 -- what is printed of the value that was read
 pub value_found : (par : Par) (bytes : List ℕ) (r next : Reader) (value : Value) (printed : Worth) → r ≡ reader_at Big 0 bytes
     → (param par).read r ≡ Ok (value, next) → printed ≡ printed_value value → printed ≡ worth_in (Some par) bytes

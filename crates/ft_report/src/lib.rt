@@ -2,13 +2,14 @@
 #![tactic(auto)]
 
 mod outcomes;
+mod parts;
 mod rendering;
 mod reports;
 mod words;
 
 pub use outcomes::{ReportOutcome, Worth, worth_of};
 pub use rendering::{render, render_all};
-pub use reports::{ReportLine, ReportLines, Role};
+pub use reports::{CallEnd, ReportLine, ReportLines, Role, Standing};
 
 #[cfg(test)]
 mod tests;

@@ -89,28 +89,29 @@ fn printed_value(value: Value) -> Worth
     }
 }
 
+/// More bytes than an outcome has.
+const VALUE_ROOM: usize = 1_048_576;
+
 fn worth_of_one(alloc: Global, par: Par, bytes: &[u8]) -> Result<Worth, NoMemory>
-    requires canonical { IsCanonical (par ∷ []) bytes.now }
-    requires short { length bytes.now + 8 < 2 ^ 32 }
     ensures value { IfOk result (λ printed. printed ≡ worth_in (Some par) bytes.now) }
-    ensures worth { IfOk result (λ printed. IsWorth (Some par) bytes.now printed) }
+    ensures worth { IsCanonical (par ∷ []) bytes.now → IfOk result (λ printed. IsWorth (Some par) bytes.now printed) }
 {
     canonical_forms_are_read();
+    if bytes.len() > VALUE_ROOM {
+        return Err(NoMemory);
+    }
     let mut reader = CdrReader::new(Order::Big, 0, bytes);
     match read_value(alloc, par, &mut reader) {
         Ok(value) => Ok(printed_value(value)),
         Err(FieldFault::NoMemory) => Err(NoMemory),
-        Err(FieldFault::Bad(_)) => unreachable!(),
+        Err(FieldFault::Bad(_)) => Ok(Worth::Void),
     }
 }
 
-/// A result's value, which is in canonical form, as it is printed: a text as its octets. It is read by the one reader
-/// of CDR, whose places are unsigned longs.
+/// A result's value as it is printed: a text as its octets. What is no value of this type is void.
 pub fn worth_of(alloc: Global, gives: Option<Par>, value: &Bytes) -> Result<Worth, NoMemory>
-    requires canonical { IsCanonical (one_of gives) value.now }
-    requires short { length value.now + 8 < 2 ^ 32 }
     ensures value { IfOk result (λ printed. printed ≡ worth_in gives value.now) }
-    ensures worth { IfOk result (λ printed. IsWorth gives value.now printed) }
+    ensures worth { IsCanonical (one_of gives) value.now → IfOk result (λ printed. IsWorth gives value.now printed) }
 {
     match gives {
         None => Ok(Worth::Void),

@@ -1,188 +1,20 @@
-ghost use Rattle.std.specs.Prelude.{◌≡◌, ◌∷◌, [], decimal, IfOk};
+ghost use Rattle.std.specs.Prelude.{◌≡◌, ◌∷◌, [], codes, decimal, IfOk};
 ghost use Rattle.std.specs.List.{flat_map};
-ghost use Rattle.ft_report.specs.Words.{phrase_text};
-ghost use Rattle.ft_report.specs.Report.{completed_text, decision_text, flag_text, kind_text, report_text, role_text, outcome_text, why_text, with_number, with_numbers, worth_text};
+ghost use Rattle.ft_report.specs.Words.{line};
+ghost use Rattle.ft_report.specs.Report.{between_hosts, report_text};
 
-use crate::outcomes::{ReportOutcome, Worth};
-use crate::reports::{ReportLine, ReportLines, Role};
-use crate::words::Word::{Fixed, Host, Made, Number, Signed, Text};
+use crate::outcomes::ReportOutcome;
+use crate::parts::{
+    decision_bytes, end_bytes, ignored_bytes, outcome_bytes, refusal_bytes, role_bytes,
+    standing_bytes, why_bytes, with_version,
+};
+use crate::reports::{CallEnd, ReportLine, ReportLines, Role, Standing};
+use crate::words::Word::{Fixed, Host, Made, Number, Text};
 use crate::words::{hosts, octets, phrase, whole_line};
-use ft_base::{Bytes, Decision, HostNo, Members, Name, NoMemory, Tick, Version};
+use ft_base::{Bytes, Decision, HostNo, Ignored, Members, Name, NoMemory, Tick, Version};
 use giop_messages::Why;
+use group_model::ManageFault;
 use std::alloc::Global;
-use sys_faults::{Completed, SysFault, SysKind};
-
-fn flag_bytes(flag: bool) -> &'static [u8]
-    ensures { result.now ≡ flag_text flag }
-{
-    if flag { b"true" } else { b"false" }
-}
-
-fn completed_bytes(completed: Completed) -> &'static [u8]
-    ensures { result.now ≡ completed_text completed }
-{
-    match completed {
-        Completed::Yes => b"yes",
-        Completed::No => b"no",
-        Completed::Maybe => b"maybe",
-    }
-}
-
-fn role_bytes(role: Role) -> &'static [u8]
-    ensures { result.now ≡ role_text role }
-{
-    match role {
-        Role::Primary => b"primary",
-        Role::Backup => b"backup",
-    }
-}
-
-fn why_bytes(why: Why) -> &'static [u8]
-    ensures { result.now ≡ why_text why }
-{
-    match why {
-        Why::Magic => b"magic",
-        Why::Version => b"version",
-        Why::Flags => b"flags",
-        Why::Kind => b"kind",
-        Why::Length => b"length",
-        Why::Open => b"open",
-        Why::Cut => b"cut",
-        Why::Short => b"short",
-        Why::BadBool => b"badbool",
-        Why::BadString => b"badstring",
-        Why::BadOrder => b"badorder",
-        Why::Address => b"address",
-        Why::Status => b"status",
-    }
-}
-
-fn worth_bytes(alloc: Global, worth: &Worth) -> Result<Bytes, NoMemory>
-    ensures { IfOk result (λ bytes. bytes ≡ worth_text worth.now) }
-{
-    match worth {
-        Worth::Void => Bytes::of(alloc, b"void"),
-        Worth::Number(number) => phrase(alloc, &[Signed(*number)]),
-        Worth::Flag(flag) => Bytes::of(alloc, flag_bytes(*flag)),
-        Worth::Octets(bytes) => octets(alloc, bytes),
-    }
-}
-
-fn kind_bytes(alloc: Global, kind: &SysKind) -> Result<Bytes, NoMemory>
-    ensures { IfOk result (λ bytes. bytes ≡ kind_text kind.now) }
-{
-    if let SysKind::Unknown(id) = kind {
-        return octets(alloc, id);
-    }
-    match kind.name() {
-        Some(name) => Bytes::of(alloc, name),
-        None => unreachable!(),
-    }
-}
-
-// A word, a group's name and the version of a view.
-fn forward_bytes(
-    alloc: Global,
-    word: &'static [u8],
-    group: &Name,
-    version: Version,
-) -> Result<Bytes, NoMemory>
-    ensures { IfOk result (λ bytes. bytes ≡ phrase_text (word.now ∷ group.now ∷ decimal version.0 ∷ [])) }
-{
-    phrase(
-        alloc,
-        &[
-            Fixed(word),
-            Text(group.bytes()),
-            Number(u64::from(version.0)),
-        ],
-    )
-}
-
-fn outcome_bytes(alloc: Global, shown: &ReportOutcome) -> Result<Bytes, NoMemory>
-    ensures { IfOk result (λ bytes. bytes ≡ outcome_text shown.now) }
-{
-    match shown {
-        ReportOutcome::Value(worth) => {
-            let worth = worth_bytes(alloc, worth)?;
-            phrase(alloc, &[Fixed(b"value"), Made(worth.bytes())])
-        }
-        ReportOutcome::User(name) => phrase(alloc, &[Fixed(b"user"), Text(name.bytes())]),
-        ReportOutcome::System(fault) => {
-            let kind = kind_bytes(alloc, &fault.kind)?;
-            phrase(
-                alloc,
-                &[
-                    Fixed(b"system"),
-                    Made(kind.bytes()),
-                    Number(u64::from(fault.minor)),
-                    Fixed(completed_bytes(fault.completed)),
-                ],
-            )
-        }
-        ReportOutcome::Forward { group, version } => forward_bytes(
-            alloc, b"forward", group, *version,
-        ),
-        ReportOutcome::ForwardPerm { group, version } => {
-            forward_bytes(alloc, b"forward-perm", group, *version)
-        }
-    }
-}
-
-// A word and a number.
-fn with_number(alloc: Global, word: &'static [u8], number: u64) -> Result<Bytes, NoMemory>
-    ensures { IfOk result (λ bytes. bytes ≡ with_number word.now number) }
-{
-    phrase(alloc, &[Fixed(word), Number(number)])
-}
-
-// A word and two numbers.
-fn with_numbers(
-    alloc: Global,
-    word: &'static [u8],
-    first: u64,
-    second: u64,
-) -> Result<Bytes, NoMemory>
-    ensures { IfOk result (λ bytes. bytes ≡ with_numbers word.now first second) }
-{
-    phrase(alloc, &[Fixed(word), Number(first), Number(second)])
-}
-
-fn versions(
-    alloc: Global,
-    word: &'static [u8],
-    first: Version,
-    second: Version,
-) -> Result<Bytes, NoMemory>
-    ensures { IfOk result (λ bytes. bytes ≡ with_numbers word.now first.0 second.0) }
-{
-    with_numbers(alloc, word, u64::from(first.0), u64::from(second.0))
-}
-
-fn decision_bytes(alloc: Global, decision: Decision) -> Result<Bytes, NoMemory>
-    ensures { IfOk result (λ bytes. bytes ≡ decision_text decision) }
-{
-    match decision {
-        Decision::Append(place) => with_number(alloc, b"append", u64::from(place)),
-        Decision::Repeat(place) => with_number(alloc, b"repeat", u64::from(place)),
-        Decision::Expired { expiration, now } => {
-            with_numbers(alloc, b"expired", expiration.0, now.0)
-        }
-        Decision::Other(place) => with_number(alloc, b"other", u64::from(place)),
-        Decision::Full(count) => with_number(alloc, b"full", u64::from(count)),
-        Decision::LogFault => Bytes::of(alloc, b"logfault"),
-        Decision::Newer { asked, newest } => versions(alloc, b"newer", asked, newest),
-        Decision::Empty(known) => with_number(alloc, b"empty", u64::from(known.0)),
-        Decision::Older { asked, known } => versions(alloc, b"older", asked, known),
-        Decision::Stranger(known) => with_number(alloc, b"stranger", u64::from(known.0)),
-        Decision::Backup(known) => with_number(alloc, b"backup", u64::from(known.0)),
-        Decision::Deposed { known, newest } => versions(alloc, b"deposed", known, newest),
-        Decision::BadOperation => Bytes::of(alloc, b"badop"),
-        Decision::Marshal(place) => with_number(alloc, b"marshal", u64::from(place)),
-        Decision::Long(count) => with_number(alloc, b"long", u64::from(count)),
-        Decision::Context(id) => with_number(alloc, b"context", u64::from(id)),
-    }
-}
 
 fn view_line(
     alloc: Global,
@@ -274,24 +106,191 @@ fn at_line(alloc: Global, host: HostNo, group: &Name, decision: Decision) -> Res
     )
 }
 
-fn done_line(
-    alloc: Global,
-    client: &Name,
-    call: u32,
-    shown: &ReportOutcome,
-) -> Result<Bytes, NoMemory>
-    ensures { IfOk result (λ bytes. bytes ≡ report_text (ReportLine.Done client.now call shown.now)) }
+fn done_line(alloc: Global, client: &Name, call: u32, end: &CallEnd) -> Result<Bytes, NoMemory>
+    ensures { IfOk result (λ bytes. bytes ≡ report_text (ReportLine.Done client.now call end.now)) }
 {
-    let shown = outcome_bytes(alloc, shown)?;
+    let end = end_bytes(alloc, end)?;
     whole_line(
         alloc,
         &[
             Fixed(b"done"),
             Text(client.bytes()),
             Number(u64::from(call)),
-            Made(shown.bytes()),
+            Made(end.bytes()),
         ],
     )
+}
+
+// A message to a host: the words that stand before the host's number, and what it is told.
+fn told_line(
+    alloc: Global,
+    message: u64,
+    way: &'static [u8],
+    host: HostNo,
+    told: &Bytes,
+) -> Result<Bytes, NoMemory>
+    ensures { IfOk result (λ bytes. bytes ≡ line (codes "msg" ∷ decimal message ∷ way.now ∷ decimal host.0 ∷ told.now ∷ [])) }
+{
+    whole_line(
+        alloc,
+        &[
+            Fixed(b"msg"),
+            Number(message),
+            Fixed(way),
+            Number(u64::from(host.0)),
+            Text(told.bytes()),
+        ],
+    )
+}
+
+fn view_message_line(
+    alloc: Global,
+    message: u64,
+    host: HostNo,
+    group: &Name,
+    version: Version,
+) -> Result<Bytes, NoMemory>
+    ensures { IfOk result (λ bytes. bytes ≡ report_text (ReportLine.ViewMessage message host group.now version)) }
+{
+    let view = with_version(alloc, b"view", group, version)?;
+    told_line(alloc, message, b"manager to host", host, &view)
+}
+
+// A message from one host to another.
+fn between_hosts(alloc: Global, message: u64, from: HostNo, to: HostNo) -> Result<Bytes, NoMemory>
+    ensures { IfOk result (λ bytes. bytes ≡ between_hosts message from.0 to.0) }
+{
+    phrase(
+        alloc,
+        &[
+            Fixed(b"msg"),
+            Number(message),
+            Fixed(b"host"),
+            Number(u64::from(from.0)),
+            Fixed(b"to host"),
+            Number(u64::from(to.0)),
+        ],
+    )
+}
+
+fn state_line(alloc: Global, way: &Bytes, group: &Name, position: u32) -> Result<Bytes, NoMemory>
+    ensures { IfOk result (λ bytes. bytes ≡ line (way.now ∷ codes "state" ∷ group.now ∷ decimal position ∷ [])) }
+{
+    whole_line(
+        alloc,
+        &[
+            Made(way.bytes()),
+            Fixed(b"state"),
+            Text(group.bytes()),
+            Number(u64::from(position)),
+        ],
+    )
+}
+
+fn update_line(
+    alloc: Global,
+    way: &Bytes,
+    group: &Name,
+    base: u32,
+    position: u32,
+) -> Result<Bytes, NoMemory>
+    ensures { IfOk result (λ bytes. bytes ≡ line (way.now ∷ codes "update" ∷ group.now ∷ decimal base ∷ decimal position ∷ [])) }
+{
+    whole_line(
+        alloc,
+        &[
+            Made(way.bytes()),
+            Fixed(b"update"),
+            Text(group.bytes()),
+            Number(u64::from(base)),
+            Number(u64::from(position)),
+        ],
+    )
+}
+
+fn order_line(alloc: Global, way: &Bytes, group: &Name, index: u32) -> Result<Bytes, NoMemory>
+    ensures { IfOk result (λ bytes. bytes ≡ line (way.now ∷ codes "order" ∷ group.now ∷ decimal index ∷ [])) }
+{
+    whole_line(
+        alloc,
+        &[
+            Made(way.bytes()),
+            Fixed(b"order"),
+            Text(group.bytes()),
+            Number(u64::from(index)),
+        ],
+    )
+}
+
+fn held_line(alloc: Global, message: u64, index: u32, position: u32) -> Result<Bytes, NoMemory>
+    ensures { IfOk result (λ bytes. bytes ≡ report_text (ReportLine.Held message index position)) }
+{
+    whole_line(
+        alloc,
+        &[
+            Fixed(b"held"),
+            Number(message),
+            Fixed(b"order"),
+            Number(u64::from(index)),
+            Fixed(b"at"),
+            Number(u64::from(position)),
+        ],
+    )
+}
+
+fn known_line(
+    alloc: Global,
+    host: HostNo,
+    group: &Name,
+    version: Version,
+) -> Result<Bytes, NoMemory>
+    ensures { IfOk result (λ bytes. bytes ≡ report_text (ReportLine.Known host group.now version)) }
+{
+    whole_line(
+        alloc,
+        &[
+            Fixed(b"known"),
+            Number(u64::from(host.0)),
+            Text(group.bytes()),
+            Number(u64::from(version.0)),
+        ],
+    )
+}
+
+fn ignored_line(alloc: Global, message: u64, why: Ignored) -> Result<Bytes, NoMemory>
+    ensures { IfOk result (λ bytes. bytes ≡ report_text (ReportLine.Ignored message why)) }
+{
+    let why = ignored_bytes(alloc, why)?;
+    whole_line(
+        alloc,
+        &[Fixed(b"ignored"), Number(message), Made(why.bytes())],
+    )
+}
+
+fn adopted_line<'a>(
+    alloc: Global,
+    client: &'a Name,
+    group: &'a Name,
+    version: Version,
+) -> Result<Bytes, NoMemory>
+    ensures { IfOk result (λ bytes. bytes ≡ report_text (ReportLine.Adopted client.now group.now version)) }
+{
+    whole_line(
+        alloc,
+        &[
+            Fixed(b"adopt"),
+            Text(client.bytes()),
+            Text(group.bytes()),
+            Number(u64::from(version.0)),
+        ],
+    )
+}
+
+fn refused_line(alloc: Global, fault: ManageFault) -> Result<Bytes, NoMemory>
+    ensures { IfOk result (λ bytes. bytes ≡ report_text (ReportLine.Refused fault)) }
+{
+    let fault = refusal_bytes(alloc, fault)?;
+    whole_line(alloc, &[Fixed(b"refused"), Made(fault.bytes())])
 }
 
 fn show_line(
@@ -325,28 +324,20 @@ fn member_line(
     alloc: Global,
     host: HostNo,
     role: Role,
-    known: Version,
-    position: u32,
-    state: &Bytes,
+    standing: &Standing,
 ) -> Result<Bytes, NoMemory>
-    ensures { IfOk result (λ bytes. bytes ≡ report_text (ReportLine.Member host role known position state.now)) }
+    ensures { IfOk result (λ bytes. bytes ≡ report_text (ReportLine.Member host role standing.now)) }
 {
-    let state = octets(alloc, state)?;
-    let bytes = whole_line(
+    let standing = standing_bytes(alloc, standing)?;
+    whole_line(
         alloc,
         &[
             Fixed(b"member"),
             Number(u64::from(host.0)),
             Fixed(role_bytes(role)),
-            Fixed(b"known"),
-            Number(u64::from(known.0)),
-            Fixed(b"at"),
-            Number(u64::from(position)),
-            Fixed(b"state"),
-            Made(state.bytes()),
+            Made(standing.bytes()),
         ],
-    )?;
-    Ok(bytes)
+    )
 }
 
 fn no_group_line(alloc: Global, host: HostNo) -> Result<Bytes, NoMemory>
@@ -410,18 +401,82 @@ pub fn render(alloc: Global, line: &ReportLine) -> Result<Bytes, NoMemory>
             group,
             decision,
         } => at_line(alloc, *host, group, *decision),
+        ReportLine::ViewMessage {
+            message,
+            host,
+            group,
+            version,
+        } => view_message_line(alloc, *message, *host, group, *version),
+        ReportLine::StateMessage {
+            message,
+            from,
+            to,
+            group,
+            position,
+        } => {
+            let way = between_hosts(alloc, *message, *from, *to)?;
+            state_line(alloc, &way, group, *position)
+        }
+        ReportLine::UpdateMessage {
+            message,
+            from,
+            to,
+            group,
+            base,
+            position,
+        } => {
+            let way = between_hosts(alloc, *message, *from, *to)?;
+            update_line(alloc, &way, group, *base, *position)
+        }
+        ReportLine::OrderMessage {
+            message,
+            from,
+            to,
+            group,
+            index,
+        } => {
+            let way = between_hosts(alloc, *message, *from, *to)?;
+            order_line(alloc, &way, group, *index)
+        }
+        ReportLine::Applied { message, position } => whole_line(
+            alloc,
+            &[
+                Fixed(b"applied"),
+                Number(*message),
+                Fixed(b"at"),
+                Number(u64::from(*position)),
+            ],
+        ),
+        ReportLine::Held {
+            message,
+            index,
+            position,
+        } => held_line(alloc, *message, *index, *position),
+        ReportLine::Known {
+            host,
+            group,
+            version,
+        } => known_line(alloc, *host, group, *version),
+        ReportLine::Lost { message } => whole_line(alloc, &[Fixed(b"lost"), Number(*message)]),
         ReportLine::UnheardReply { message } => {
             whole_line(
                 alloc,
                 &[Fixed(b"ignored"), Number(*message), Fixed(b"reply")],
             )
         }
-        ReportLine::Done {
+        ReportLine::Ignored { message, why } => ignored_line(alloc, *message, *why),
+        ReportLine::Adopted {
             client,
-            call,
-            shown,
-        } => done_line(alloc, client, *call, shown),
+            group,
+            version,
+        } => adopted_line(alloc, client, group, *version),
+        ReportLine::Done { client, call, end } => done_line(alloc, client, *call, end),
         ReportLine::Busy { client } => whole_line(alloc, &[Fixed(b"busy"), Text(client.bytes())]),
+        ReportLine::Down { host } => {
+            whole_line(alloc, &[Fixed(b"down"), Number(u64::from(host.0))])
+        }
+        ReportLine::Up { host } => whole_line(alloc, &[Fixed(b"up"), Number(u64::from(host.0))]),
+        ReportLine::Refused(fault) => refused_line(alloc, *fault),
         ReportLine::Show {
             group,
             version,
@@ -432,10 +487,8 @@ pub fn render(alloc: Global, line: &ReportLine) -> Result<Bytes, NoMemory>
         ReportLine::Member {
             host,
             role,
-            known,
-            position,
-            state,
-        } => member_line(alloc, *host, *role, *known, *position, state),
+            standing,
+        } => member_line(alloc, *host, *role, standing),
         ReportLine::NoGroup { host } => no_group_line(alloc, *host),
         ReportLine::Bytes(written) => bytes_line(alloc, written),
         ReportLine::LinkClosed => whole_line(alloc, &[Fixed(b"link closed")]),
@@ -443,6 +496,7 @@ pub fn render(alloc: Global, line: &ReportLine) -> Result<Bytes, NoMemory>
         ReportLine::LinkTooLarge(size) => {
             whole_line(alloc, &[Fixed(b"link too-large"), Number(*size)])
         }
+        ReportLine::LinkLost => whole_line(alloc, &[Fixed(b"link lost")]),
     }
 }
 

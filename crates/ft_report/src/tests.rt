@@ -3,18 +3,21 @@ ghost use Rattle.ft_base.specs.Canonical.{HasSpelling};
 
 use crate::outcomes::{ReportOutcome, Worth, worth_of};
 use crate::rendering::{render, render_all};
-use crate::reports::{ReportLine, ReportLines, Role};
+use crate::reports::{CallEnd, ReportLine, ReportLines, Role, Standing};
 use cdr_codec::canonical;
 use ft_base::{
-    Bytes, Decision, GroupId, HostNo, Members, Name, NoMemory, RESULT_LIMIT, Tick, Value, Version,
+    Bytes, Decision, GroupId, HostNo, Ignored, Members, Name, NoMemory, RESULT_LIMIT, Tick, Value,
+    Version,
 };
 use giop_messages::Why;
+use group_model::ManageFault;
 use std::alloc::Global;
 use sys_faults::{Completed, SysFault, SysKind};
 
 const HOST: HostNo = HostNo(0);
 
-const FIRST: Version = Version(1);
+// A line, and its bytes.
+type Row = (ReportLine, &'static str);
 
 fn name(alloc: Global, text: &[u8]) -> Result<Name, NoMemory>
     requires { length text.now < 2 ^ 32 }
@@ -33,14 +36,12 @@ fn system(kind: SysKind, minor: u32, completed: Completed) -> ReportOutcome {
     })
 }
 
-fn attempt(alloc: Global, message: u64, client: &[u8], id: u32) -> Result<ReportLine, NoMemory>
-    requires { length client.now < 2 ^ 32 }
-{
-    let client = name(alloc, client)?;
+fn attempt(alloc: Global, message: u64, id: u32) -> Result<ReportLine, NoMemory> {
+    let client = name(alloc, b"ann")?;
     Ok(ReportLine::Attempt {
         message,
         client,
-        host: HOST,
+        host: HostNo(1),
         id,
     })
 }
@@ -48,13 +49,10 @@ fn attempt(alloc: Global, message: u64, client: &[u8], id: u32) -> Result<Report
 fn reply(
     alloc: Global,
     message: u64,
-    client: &[u8],
     id: u32,
     shown: ReportOutcome,
-) -> Result<ReportLine, NoMemory>
-    requires { length client.now < 2 ^ 32 }
-{
-    let client = name(alloc, client)?;
+) -> Result<ReportLine, NoMemory> {
+    let client = name(alloc, b"ann")?;
     Ok(ReportLine::Reply {
         message,
         host: HOST,
@@ -73,13 +71,13 @@ fn at(alloc: Global, decision: Decision) -> Result<ReportLine, NoMemory> {
     })
 }
 
-fn done(alloc: Global, call: u32, shown: ReportOutcome) -> Result<ReportLine, NoMemory> {
+fn done(alloc: Global, call: u32, end: CallEnd) -> Result<ReportLine, NoMemory> {
     let client = name(alloc, b"ann")?;
-    Ok(ReportLine::Done {
-        client,
-        call,
-        shown,
-    })
+    Ok(ReportLine::Done { client, call, end })
+}
+
+fn valued(alloc: Global, call: u32, worth: Worth) -> Result<ReportLine, NoMemory> {
+    done(alloc, call, CallEnd::Shown(ReportOutcome::Value(worth)))
 }
 
 fn view(
@@ -103,254 +101,412 @@ fn view(
     })
 }
 
-fn made(alloc: Global, lines: &mut ReportLines) -> Result<(), NoMemory> {
-    let group = name(alloc, b"bank")?;
-    lines.push(ReportLine::Group {
-        name: group,
+// Lines that hold no text.
+const PLAIN: [Row; 17] = [
+    (ReportLine::Lost { message: 9 }, "lost 9\n"),
+    (ReportLine::UnheardReply { message: 4 }, "ignored 4 reply\n"),
+    (
+        ReportLine::Ignored {
+            message: 5,
+            why: Ignored::NotLoaded,
+        },
+        "ignored 5 not-loaded\n",
+    ),
+    (
+        ReportLine::Ignored {
+            message: 7,
+            why: Ignored::Position { sent: 2, at: 3 },
+        },
+        "ignored 7 position 2 at 3\n",
+    ),
+    (
+        ReportLine::Ignored {
+            message: 6,
+            why: Ignored::From { from: 1, at: 0 },
+        },
+        "ignored 6 from 1 at 0\n",
+    ),
+    (
+        ReportLine::Ignored {
+            message: 4,
+            why: Ignored::Order { index: 0, at: 2 },
+        },
+        "ignored 4 order 0 at 2\n",
+    ),
+    (
+        ReportLine::Ignored {
+            message: 3,
+            why: Ignored::Known {
+                sent: Version(1),
+                known: Version(2),
+            },
+        },
+        "ignored 3 view 1 known 2\n",
+    ),
+    (ReportLine::Down { host: HOST }, "down 0\n"),
+    (ReportLine::Up { host: HostNo(63) }, "up 63\n"),
+    (
+        ReportLine::Member {
+            host: HostNo(1),
+            role: Role::Primary,
+            standing: Standing::Blank { known: Version(2) },
+        },
+        "member 1 primary known 2 blank\n",
+    ),
+    (
+        ReportLine::Member {
+            host: HostNo(2),
+            role: Role::Active,
+            standing: Standing::Blank { known: Version(0) },
+        },
+        "member 2 active known 0 blank\n",
+    ),
+    (
+        ReportLine::Member {
+            host: HostNo(3),
+            role: Role::Backup,
+            standing: Standing::Down,
+        },
+        "member 3 backup down\n",
+    ),
+    (
+        ReportLine::NoGroup { host: HostNo(63) },
+        "at 63 - nogroup\n",
+    ),
+    (ReportLine::LinkClosed, "link closed\n"),
+    (
+        ReportLine::LinkTooLarge(4294967307),
+        "link too-large 4294967307\n",
+    ),
+    (ReportLine::LinkLost, "link lost\n"),
+    (
+        ReportLine::LinkMalformed {
+            why: Why::Cut,
+            place: u32::MAX,
+        },
+        "link malformed cut 4294967295\n",
+    ),
+];
+
+fn made(alloc: Global, rows: &mut Vec<Row>) -> Result<(), NoMemory> {
+    let group = ReportLine::Group {
+        name: name(alloc, b"bank")?,
         id: GroupId(1),
-    })?;
-    lines.push(view(alloc, 1, &[HOST], Some(HOST))?)?;
-    lines.push(view(alloc, 2, &[HostNo(63), HOST, HostNo(7)], Some(HostNo(63)))?)?;
-    lines.push(view(alloc, 3, &[], None)?)?;
+    };
+    rows.push((group, "group bank 1\n"))?;
+    let first = view(alloc, 1, &[HOST], Some(HOST))?;
+    rows.push((first, "view bank 1 members 0 primary 0\n"))?;
+    let second = view(alloc, 2, &[HostNo(63), HOST, HostNo(7)], Some(HostNo(63)))?;
+    rows.push((second, "view bank 2 members 63,0,7 primary 63\n"))?;
+    let third = view(alloc, 3, &[], None)?;
+    rows.push((third, "view bank 3 members - primary -\n"))?;
     Ok(())
 }
 
 // One call, its reply and the group after it.
-fn one_call(alloc: Global, lines: &mut ReportLines) -> Result<(), NoMemory> {
-    lines.push(attempt(alloc, 1, b"ann", 1)?)?;
-    lines.push(at(alloc, Decision::Append(0))?)?;
-    lines.push(reply(alloc, 2, b"ann", 1, ReportOutcome::Value(Worth::Number(5)))?)?;
-    lines.push(done(alloc, 1, ReportOutcome::Value(Worth::Number(5)))?)?;
-    let group = name(alloc, b"bank")?;
-    lines.push(ReportLine::Show {
-        group,
-        version: FIRST,
-        entries: 1,
-        mark: 0,
-        time: Tick(0),
-    })?;
-    let state = Bytes::of(alloc, &[0, 0, 0, 0, 0, 0, 0, 0xa5])?;
-    lines.push(ReportLine::Member {
+fn one_call(alloc: Global, rows: &mut Vec<Row>) -> Result<(), NoMemory> {
+    rows.push((
+        attempt(alloc, 1, 2)?,
+        "msg 1 client ann to host 1 request 2\n",
+    ))?;
+    let answered = reply(alloc, 2, 1, ReportOutcome::Value(Worth::Number(5)))?;
+    rows.push((answered, "msg 2 host 0 to client ann reply 1 value 5\n"))?;
+    rows.push((valued(alloc, 1, Worth::Number(5))?, "done ann 1 value 5\n"))?;
+    let show = ReportLine::Show {
+        group: name(alloc, b"bank")?,
+        version: Version(1),
+        entries: 3,
+        mark: 2,
+        time: Tick(4),
+    };
+    rows.push((show, "show bank view 1 entries 3 mark 2 time 4\n"))?;
+    let member = ReportLine::Member {
         host: HOST,
-        role: Role::Primary,
-        known: FIRST,
-        position: 1,
-        state,
-    })?;
-    Ok(())
-}
-
-// A repeat, another request under the same key, and a request that came too late.
-fn refusals(alloc: Global, lines: &mut ReportLines) -> Result<(), NoMemory> {
-    lines.push(at(alloc, Decision::Repeat(0))?)?;
-    lines.push(at(alloc, Decision::Other(0))?)?;
-    lines.push(reply(
-        alloc,
-        4,
-        b"ann",
-        2,
-        system(SysKind::BadContext, 2, Completed::No),
-    )?)?;
-    lines.push(done(alloc, 2, system(SysKind::BadContext, 2, Completed::No))?)?;
-    lines.push(at(
-        alloc,
-        Decision::Expired {
-            expiration: Tick(100),
-            now: Tick(100),
+        role: Role::Former,
+        standing: Standing::At {
+            known: Version(2),
+            position: 1,
+            state: Bytes::of(alloc, &[0, 0, 0, 0, 0, 0, 0, 0xa5])?,
         },
-    )?)?;
-    lines.push(reply(
-        alloc,
-        5,
-        b"bob",
-        1,
-        system(SysKind::BadContext, 1, Completed::No),
-    )?)?;
-    lines.push(at(alloc, Decision::BadOperation)?)?;
-    lines.push(at(alloc, Decision::Full(262144))?)?;
-    lines.push(ReportLine::UnheardReply { message: 4 })?;
-    let client = name(alloc, b"ann")?;
-    lines.push(ReportLine::Busy { client })?;
+    };
+    rows.push((
+        member,
+        "member 0 former known 2 at 1 state 00000000000000a5\n",
+    ))?;
     Ok(())
 }
 
-// What a host makes of a request that another rule of its group refuses.
-const REFUSED: [Decision; 10] = [
-    Decision::LogFault,
-    Decision::Newer {
-        asked: Version(3),
-        newest: Version(2),
-    },
-    Decision::Empty(Version(3)),
-    Decision::Older {
-        asked: Version(0),
-        known: Version(1),
-    },
-    Decision::Stranger(Version(1)),
-    Decision::Backup(Version(2)),
-    Decision::Deposed {
-        known: Version(1),
-        newest: Version(2),
-    },
-    Decision::Marshal(8),
-    Decision::Long(4097),
-    Decision::Context(13),
-];
-
-fn each_decision(alloc: Global, lines: &mut ReportLines) -> Result<(), NoMemory> {
-    for decision in &REFUSED {
-        lines.push(at(alloc, *decision)?)?;
-    }
+// A view goes to a host, and to a client.
+fn told(alloc: Global, rows: &mut Vec<Row>) -> Result<(), NoMemory> {
+    let message = ReportLine::ViewMessage {
+        message: 2,
+        host: HOST,
+        group: name(alloc, b"bank")?,
+        version: Version(3),
+    };
+    rows.push((message, "msg 2 manager to host 0 view bank 3\n"))?;
+    let known = ReportLine::Known {
+        host: HostNo(1),
+        group: name(alloc, b"bank")?,
+        version: Version(2),
+    };
+    rows.push((known, "known 1 bank 2\n"))?;
+    let adopted = ReportLine::Adopted {
+        client: name(alloc, b"ann")?,
+        group: name(alloc, b"bank")?,
+        version: Version(2),
+    };
+    rows.push((adopted, "adopt ann bank 2\n"))?;
+    let busy = ReportLine::Busy {
+        client: name(alloc, b"ann")?,
+    };
+    rows.push((busy, "busy ann\n"))?;
     Ok(())
 }
 
-fn outcomes(alloc: Global, lines: &mut ReportLines) -> Result<(), NoMemory> {
-    let exception = name(alloc, b"BadAmount")?;
-    lines.push(done(alloc, 3, ReportOutcome::User(exception))?)?;
-    lines.push(done(alloc, 4, ReportOutcome::Value(Worth::Void))?)?;
-    lines.push(done(alloc, 5, ReportOutcome::Value(Worth::Flag(true)))?)?;
-    lines.push(done(alloc, 6, ReportOutcome::Value(Worth::Number(i64::MIN)))?)?;
+fn values(alloc: Global, rows: &mut Vec<Row>) -> Result<(), NoMemory> {
+    rows.push((valued(alloc, 4, Worth::Void)?, "done ann 4 value void\n"))?;
+    rows.push((
+        valued(alloc, 5, Worth::Flag(true))?,
+        "done ann 5 value true\n",
+    ))?;
+    let least = valued(alloc, 6, Worth::Number(i64::MIN))?;
+    rows.push((least, "done ann 6 value -9223372036854775808\n"))?;
     let octets = Bytes::of(alloc, b"\x00\xffAz")?;
-    lines.push(done(alloc, 7, ReportOutcome::Value(Worth::Octets(octets)))?)?;
+    rows.push((
+        valued(alloc, 7, Worth::Octets(octets))?,
+        "done ann 7 value 00ff417a\n",
+    ))?;
     let none = Bytes::of(alloc, b"")?;
-    lines.push(done(alloc, 8, ReportOutcome::Value(Worth::Octets(none)))?)?;
-    lines.push(done(alloc, 9, system(SysKind::NoResponse, 1, Completed::Maybe))?)?;
-    let id = Bytes::of(alloc, b"IDL:x")?;
-    lines.push(done(alloc, 10, system(SysKind::Unknown(id), 7, Completed::Yes))?)?;
+    rows.push((
+        valued(alloc, 8, Worth::Octets(none))?,
+        "done ann 8 value -\n",
+    ))?;
+    let written = Bytes::of(alloc, b"GIOP\x01\x02\xff")?;
+    rows.push((ReportLine::Bytes(written), "bytes 47494f500102ff\n"))?;
     Ok(())
 }
 
-fn forwards(alloc: Global, lines: &mut ReportLines) -> Result<(), NoMemory> {
+fn outcomes(alloc: Global, rows: &mut Vec<Row>) -> Result<(), NoMemory> {
+    let user = CallEnd::Shown(ReportOutcome::User(name(alloc, b"BadAmount")?));
+    rows.push((done(alloc, 3, user)?, "done ann 3 user BadAmount\n"))?;
+    let id = Bytes::of(alloc, b"IDL:x")?;
+    let unknown = CallEnd::Shown(system(SysKind::Unknown(id), 7, Completed::Yes));
+    rows.push((
+        done(alloc, 10, unknown)?,
+        "done ann 10 system 49444c3a78 7 yes\n",
+    ))?;
     let group = name(alloc, b"bank")?;
     let version = Version(2);
-    lines.push(done(alloc, 11, ReportOutcome::Forward { group, version })?)?;
+    let forward = CallEnd::Shown(ReportOutcome::Forward { group, version });
+    rows.push((done(alloc, 11, forward)?, "done ann 11 forward bank 2\n"))?;
     let group = name(alloc, b"bank")?;
     let version = Version(u32::MAX);
     let perm = ReportOutcome::ForwardPerm { group, version };
-    lines.push(reply(alloc, 6, b"ann", 3, perm.copy(alloc)?)?)?;
+    let answered = reply(alloc, 6, 3, perm.copy(alloc)?)?;
+    rows.push((
+        answered,
+        "msg 6 host 0 to client ann reply 3 forward-perm bank 4294967295\n",
+    ))?;
     Ok(())
 }
 
-const CAUSES: [Why; 13] = [
-    Why::Magic,
-    Why::Version,
-    Why::Flags,
-    Why::Kind,
-    Why::Length,
-    Why::Open,
-    Why::Cut,
-    Why::Short,
-    Why::BadBool,
-    Why::BadString,
-    Why::BadOrder,
-    Why::Address,
-    Why::Status,
-];
+// A client gives up.
+fn own_ends(alloc: Global, rows: &mut Vec<Row>) -> Result<(), NoMemory> {
+    let late = CallEnd::NoResponse {
+        expiration: Tick(10),
+        now: Tick(12),
+    };
+    rows.push((
+        done(alloc, 1, late)?,
+        "done ann 1 system NO_RESPONSE 1 maybe exp 10 now 12\n",
+    ))?;
+    let faulty = CallEnd::Transient {
+        faults: 6,
+        profiles: 2,
+    };
+    rows.push((
+        done(alloc, 1, faulty)?,
+        "done ann 1 system TRANSIENT 1 maybe faults 6 profiles 2\n",
+    ))?;
+    let spent = done(alloc, 1, CallEnd::IdsSpent)?;
+    rows.push((spent, "done ann 1 system IMP_LIMIT 3 maybe\n"))?;
+    Ok(())
+}
 
-// What a host makes of the bytes of a link.
-fn links(alloc: Global, lines: &mut ReportLines) -> Result<(), NoMemory> {
-    lines.push(ReportLine::NoGroup { host: HostNo(63) })?;
-    let written = Bytes::of(alloc, b"GIOP\x01\x02\xff")?;
-    lines.push(ReportLine::Bytes(written))?;
-    let none = Bytes::of(alloc, b"")?;
-    lines.push(ReportLine::Bytes(none))?;
-    lines.push(ReportLine::LinkClosed)?;
-    lines.push(ReportLine::LinkTooLarge(4294967307))?;
-    for why in &CAUSES {
-        lines.push(ReportLine::LinkMalformed {
-            why: *why,
-            place: 12,
-        })?;
+fn is_written(alloc: Global, line: &ReportLine, want: &str) -> Result<bool, NoMemory> {
+    let bytes = render(alloc, line)?;
+    Ok(bytes.bytes() == want.as_bytes())
+}
+
+#[test]
+fn lines_without_texts(rt: HostRuntime) -> Result<(), NoMemory> {
+    let alloc = rt.alloc();
+    for (line, want) in &PLAIN {
+        assert!(rt; is_written(alloc, line, want)?, "{want}");
     }
-    lines.push(ReportLine::LinkMalformed {
-        why: Why::Cut,
-        place: u32::MAX,
-    })?;
     Ok(())
 }
 
-const WANT: [&str; 59] = [
-    "group bank 1\n",
-    "view bank 1 members 0 primary 0\n",
-    "view bank 2 members 63,0,7 primary 63\n",
-    "view bank 3 members - primary -\n",
-    "msg 1 client ann to host 0 request 1\n",
-    "at 0 bank append 0\n",
-    "msg 2 host 0 to client ann reply 1 value 5\n",
-    "done ann 1 value 5\n",
-    "show bank view 1 entries 1 mark 0 time 0\n",
-    "member 0 primary known 1 at 1 state 00000000000000a5\n",
-    "at 0 bank repeat 0\n",
-    "at 0 bank other 0\n",
-    "msg 4 host 0 to client ann reply 2 system BAD_CONTEXT 2 no\n",
-    "done ann 2 system BAD_CONTEXT 2 no\n",
-    "at 0 bank expired 100 100\n",
-    "msg 5 host 0 to client bob reply 1 system BAD_CONTEXT 1 no\n",
-    "at 0 bank badop\n",
-    "at 0 bank full 262144\n",
-    "ignored 4 reply\n",
-    "busy ann\n",
-    "done ann 3 user BadAmount\n",
-    "done ann 4 value void\n",
-    "done ann 5 value true\n",
-    "done ann 6 value -9223372036854775808\n",
-    "done ann 7 value 00ff417a\n",
-    "done ann 8 value -\n",
-    "done ann 9 system NO_RESPONSE 1 maybe\n",
-    "done ann 10 system 49444c3a78 7 yes\n",
-    "at 0 bank logfault\n",
-    "at 0 bank newer 3 2\n",
-    "at 0 bank empty 3\n",
-    "at 0 bank older 0 1\n",
-    "at 0 bank stranger 1\n",
-    "at 0 bank backup 2\n",
-    "at 0 bank deposed 1 2\n",
-    "at 0 bank marshal 8\n",
-    "at 0 bank long 4097\n",
-    "at 0 bank context 13\n",
-    "done ann 11 forward bank 2\n",
-    "msg 6 host 0 to client ann reply 3 forward-perm bank 4294967295\n",
-    "at 63 - nogroup\n",
-    "bytes 47494f500102ff\n",
-    "bytes -\n",
-    "link closed\n",
-    "link too-large 4294967307\n",
-    "link malformed magic 12\n",
-    "link malformed version 12\n",
-    "link malformed flags 12\n",
-    "link malformed kind 12\n",
-    "link malformed length 12\n",
-    "link malformed open 12\n",
-    "link malformed cut 12\n",
-    "link malformed short 12\n",
-    "link malformed badbool 12\n",
-    "link malformed badstring 12\n",
-    "link malformed badorder 12\n",
-    "link malformed address 12\n",
-    "link malformed status 12\n",
-    "link malformed cut 4294967295\n",
+#[test]
+fn lines_with_texts(rt: HostRuntime) -> Result<(), NoMemory> {
+    let alloc = rt.alloc();
+    let mut rows = Vec::new(alloc);
+    made(alloc, &mut rows)?;
+    one_call(alloc, &mut rows)?;
+    told(alloc, &mut rows)?;
+    values(alloc, &mut rows)?;
+    outcomes(alloc, &mut rows)?;
+    own_ends(alloc, &mut rows)?;
+    for (line, want) in &rows {
+        assert!(rt; is_written(alloc, line, want)?, "{want}");
+    }
+    Ok(())
+}
+
+#[test]
+fn lines_in_order(rt: HostRuntime) -> Result<(), NoMemory> {
+    let alloc = rt.alloc();
+    let mut lines = ReportLines::new(alloc);
+    lines.push(ReportLine::Down { host: HOST })?;
+    lines.push(ReportLine::Up { host: HOST })?;
+    lines.push(ReportLine::LinkClosed)?;
+    assert_eq!(rt; lines.len(), 3);
+    let text = render_all(alloc, &lines)?;
+    assert!(rt; text.bytes() == b"down 0\nup 0\nlink closed\n".as_slice());
+    Ok(())
+}
+
+// What a host made of a request.
+const DECISIONS: [(Decision, &str); 16] = [
+    (Decision::Append(0), "at 0 bank append 0\n"),
+    (Decision::Repeat(0), "at 0 bank repeat 0\n"),
+    (
+        Decision::Expired {
+            expiration: Tick(100),
+            now: Tick(101),
+        },
+        "at 0 bank expired 100 101\n",
+    ),
+    (Decision::Other(0), "at 0 bank other 0\n"),
+    (Decision::Full(262144), "at 0 bank full 262144\n"),
+    (Decision::LogFault, "at 0 bank logfault\n"),
+    (
+        Decision::Newer {
+            asked: Version(3),
+            newest: Version(2),
+        },
+        "at 0 bank newer 3 2\n",
+    ),
+    (Decision::Empty(Version(3)), "at 0 bank empty 3\n"),
+    (
+        Decision::Older {
+            asked: Version(0),
+            known: Version(1),
+        },
+        "at 0 bank older 0 1\n",
+    ),
+    (Decision::Stranger(Version(1)), "at 0 bank stranger 1\n"),
+    (Decision::Backup(Version(2)), "at 0 bank backup 2\n"),
+    (
+        Decision::Deposed {
+            known: Version(1),
+            newest: Version(2),
+        },
+        "at 0 bank deposed 1 2\n",
+    ),
+    (Decision::BadOperation, "at 0 bank badop\n"),
+    (Decision::Marshal(8), "at 0 bank marshal 8\n"),
+    (Decision::Long(4097), "at 0 bank long 4097\n"),
+    (Decision::Context(13), "at 0 bank context 13\n"),
 ];
 
 #[test]
-fn each_line(rt: HostRuntime) -> Result<(), NoMemory> {
+fn each_decision(rt: HostRuntime) -> Result<(), NoMemory> {
     let alloc = rt.alloc();
-    let mut lines = ReportLines::new(alloc);
-    made(alloc, &mut lines)?;
-    one_call(alloc, &mut lines)?;
-    refusals(alloc, &mut lines)?;
-    outcomes(alloc, &mut lines)?;
-    each_decision(alloc, &mut lines)?;
-    forwards(alloc, &mut lines)?;
-    links(alloc, &mut lines)?;
-    assert_eq!(rt; lines.len(), WANT.len());
-    let mut whole = Vec::new(alloc);
-    for (line, want) in lines.as_slice().iter().zip(&WANT) {
-        let bytes = render(alloc, line)?;
-        assert!(rt; bytes.bytes() == want.as_bytes(), "{want}");
-        whole.extend_from_slice(bytes.bytes())?;
+    for (decision, want) in &DECISIONS {
+        let line = at(alloc, *decision)?;
+        assert!(rt; is_written(alloc, &line, want)?, "{want}");
     }
-    let all = render_all(alloc, &lines)?;
-    assert!(rt; all.bytes() == whole.as_slice());
+    Ok(())
+}
+
+// Why a change of members was refused.
+const REFUSALS: [(ManageFault, &str); 11] = [
+    (
+        ManageFault::ObjectGroupNotFound,
+        "refused ObjectGroupNotFound\n",
+    ),
+    (ManageFault::NoFactory(HostNo(1)), "refused NoFactory 1\n"),
+    (
+        ManageFault::MemberAlreadyPresent(HostNo(2)),
+        "refused MemberAlreadyPresent 2\n",
+    ),
+    (
+        ManageFault::ObjectNotAdded(16),
+        "refused ObjectNotAdded 16\n",
+    ),
+    (
+        ManageFault::ObjectNotCreated(HostNo(3)),
+        "refused ObjectNotCreated 3\n",
+    ),
+    (
+        ManageFault::BadReplicationStyle,
+        "refused BadReplicationStyle\n",
+    ),
+    (
+        ManageFault::MemberNotFound(HostNo(4)),
+        "refused MemberNotFound 4\n",
+    ),
+    (
+        ManageFault::PrimaryNotSet(HostNo(5)),
+        "refused PrimaryNotSet 5\n",
+    ),
+    (
+        ManageFault::ViewsFull(65536),
+        "refused NO_RESOURCES 65536\n",
+    ),
+    (ManageFault::LogFault, "refused PERSIST_STORE\n"),
+    (ManageFault::NoMemory, "refused NO_MEMORY\n"),
+];
+
+#[test]
+fn each_refusal(rt: HostRuntime) -> Result<(), NoMemory> {
+    let alloc = rt.alloc();
+    for (fault, want) in &REFUSALS {
+        let line = ReportLine::Refused(*fault);
+        assert!(rt; is_written(alloc, &line, want)?, "{want}");
+    }
+    Ok(())
+}
+
+// What is wrong with a message.
+const CAUSES: [(Why, &str); 13] = [
+    (Why::Magic, "link malformed magic 12\n"),
+    (Why::Version, "link malformed version 12\n"),
+    (Why::Flags, "link malformed flags 12\n"),
+    (Why::Kind, "link malformed kind 12\n"),
+    (Why::Length, "link malformed length 12\n"),
+    (Why::Open, "link malformed open 12\n"),
+    (Why::Cut, "link malformed cut 12\n"),
+    (Why::Short, "link malformed short 12\n"),
+    (Why::BadBool, "link malformed badbool 12\n"),
+    (Why::BadString, "link malformed badstring 12\n"),
+    (Why::BadOrder, "link malformed badorder 12\n"),
+    (Why::Address, "link malformed address 12\n"),
+    (Why::Status, "link malformed status 12\n"),
+];
+
+#[test]
+fn each_cause(rt: HostRuntime) -> Result<(), NoMemory> {
+    let alloc = rt.alloc();
+    for (why, want) in &CAUSES {
+        let line = ReportLine::LinkMalformed {
+            why: *why,
+            place: 12,
+        };
+        assert!(rt; is_written(alloc, &line, want)?, "{want}");
+    }
     Ok(())
 }
 
@@ -391,9 +547,8 @@ fn each_exception(rt: HostRuntime) -> Result<(), NoMemory> {
     let alloc = rt.alloc();
     for (kind, want) in &KINDS {
         let outcome = system(kind.copy(alloc)?, 1, Completed::No);
-        let line = done(alloc, 1, outcome.copy(alloc)?)?;
-        let bytes = render(alloc, &line)?;
-        assert!(rt; bytes.bytes() == want.as_bytes(), "{want}");
+        let line = done(alloc, 1, CallEnd::Shown(outcome.copy(alloc)?))?;
+        assert!(rt; is_written(alloc, &line, want)?, "{want}");
     }
     Ok(())
 }
@@ -450,13 +605,13 @@ fn long_reply(alloc: Global, lines: &mut ReportLines) -> Result<(), NoMemory> {
 
 fn long_outcomes(alloc: Global, lines: &mut ReportLines) -> Result<(), NoMemory> {
     let exception = ReportOutcome::User(long_name(alloc)?);
-    lines.push(done(alloc, u32::MAX, exception.copy(alloc)?)?)?;
+    lines.push(done(alloc, u32::MAX, CallEnd::Shown(exception.copy(alloc)?))?)?;
     let group = long_name(alloc)?;
     let forward = ReportOutcome::Forward {
         group,
         version: NEWEST,
     };
-    lines.push(done(alloc, u32::MAX, forward.copy(alloc)?)?)
+    lines.push(done(alloc, u32::MAX, CallEnd::Shown(forward.copy(alloc)?))?)
 }
 
 fn long_decision(alloc: Global, lines: &mut ReportLines) -> Result<(), NoMemory> {
@@ -509,7 +664,7 @@ fn long_bytes(alloc: Global, lines: &mut ReportLines) -> Result<(), NoMemory> {
     lines.push(ReportLine::Bytes(octets))?;
     let octets = Bytes::from_vec(repeated(alloc, "\u{7f}", 4_096)?);
     let value = ReportOutcome::Value(Worth::Octets(octets));
-    lines.push(done(alloc, 1, value.copy(alloc)?)?)
+    lines.push(done(alloc, 1, CallEnd::Shown(value.copy(alloc)?))?)
 }
 
 fn long_state(alloc: Global, lines: &mut ReportLines) -> Result<(), NoMemory> {
@@ -517,9 +672,11 @@ fn long_state(alloc: Global, lines: &mut ReportLines) -> Result<(), NoMemory> {
     lines.push(ReportLine::Member {
         host: LAST,
         role: Role::Backup,
-        known: NEWEST,
-        position: u32::MAX,
-        state,
+        standing: Standing::At {
+            known: NEWEST,
+            position: u32::MAX,
+            state,
+        },
     })?;
     lines.push(view(alloc, u32::MAX, &HOSTS, None)?)
 }
@@ -613,9 +770,8 @@ fn is_printed(alloc: Global, value: &Value, want: &str) -> Result<bool, NoMemory
         return Ok(false);
     }
     let worth = worth_of(alloc, Some(value.par()), &form)?;
-    let line = done(alloc, 1, ReportOutcome::Value(worth))?;
-    let bytes = render(alloc, &line)?;
-    Ok(bytes.bytes() == want.as_bytes())
+    let line = valued(alloc, 1, worth)?;
+    is_written(alloc, &line, want)
 }
 
 #[test]

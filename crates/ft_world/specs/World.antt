@@ -16,7 +16,9 @@ use Rattle.fault_script.specs.declared.lines.LineFault.TheVariants.{Unknown, Aga
 use Rattle.fault_script.specs.declared.arguments.CallWords.{CallWords}
 use Rattle.ft_report.specs.declared.reports.ReportLine.{ReportLine}
 use Rattle.ft_report.specs.declared.reports.ReportLine.TheVariants as reports
+use Rattle.ft_report.specs.declared.reports.CallEnd.TheVariants as ends
 use Rattle.ft_report.specs.declared.reports.Role.TheVariants.{Primary}
+use Rattle.ft_report.specs.declared.reports.Standing.TheVariants as standings
 use Rattle.lone_group.specs.Servant.{machine, opening}
 use Rattle.lone_group.specs.Group.{Group, Served, serve}
 use Rattle.ft_world.specs.Printed.{shown}
@@ -266,7 +268,7 @@ heard w r c = record w { clients = slice_set w.clients r.client (call_closed c) 
 abbrev pub ended : World → Reply → Client → Turn
 ended w r c =
     Goes (heard w r c)
-    (reports.Done c.name r.id r.shown ∷ []) 0
+    (reports.Done c.name r.id (ends.Shown r.shown) ∷ []) 0
 
 abbrev pub heard_by : World → ℕ → Reply → Option Client → Turn
 heard_by w k r None = Goes w [] 0
@@ -291,8 +293,8 @@ tick_line w ticks = Goes (record w { clock = w.clock + ticks; hosts = map (λ at
 abbrev pub shown_group : Group → List ReportLine
 shown_group g =
     reports.Show g.name (record { 0 = 1 }) (length g.journal) 0 (record { 0 = g.time })
-    ∷ reports.Member (record { 0 = g.host }) Primary (record { 0 = 1 }) g.position
-    (after machine opening (take g.position g.journal)) ∷ []
+    ∷ reports.Member (record { 0 = g.host }) Primary
+    (standings.At (record { 0 = 1 }) g.position (after machine opening (take g.position g.journal))) ∷ []
 
 abbrev pub show_found : World → Option (Placed Group) → Turn
 show_found w None = Refused Unknown 0

@@ -9,7 +9,7 @@ use crate::limits::{CLIENT_LIMIT, GROUP_LIMIT};
 use crate::worlds::World;
 use fault_script::{LimitName, Line, LineFault};
 use ft_base::{GroupId, HOST_LIMIT, HostNo, Members, Name, NoMemory, Steps, Version};
-use ft_report::{ReportLine, ReportLines, Role};
+use ft_report::{ReportLine, ReportLines, Role, Standing};
 use lone_group::Group;
 use std::alloc::Global;
 use std::sync::ledger::Ledger;
@@ -60,9 +60,11 @@ fn shown_report(alloc: Global, group: &Group) -> Result<ReportLines, NoMemory>
     report.push(ReportLine::Member {
         host: group.host(),
         role: Role::Primary,
-        known: FIRST,
-        position: group.position(),
-        state,
+        standing: Standing::At {
+            known: FIRST,
+            position: group.position(),
+            state,
+        },
     })?;
     Ok(report)
 }

@@ -11,7 +11,7 @@ use crate::messages::{Attempt, Message, Reply};
 use crate::worlds::World;
 use fault_script::LineFault;
 use ft_base::{Decision, HostNo, Name, NoMemory, Outcome, Signature, Steps};
-use ft_report::{ReportLine, ReportLines, ReportOutcome, worth_of};
+use ft_report::{CallEnd, ReportLine, ReportLines, ReportOutcome, worth_of};
 use std::alloc::Global;
 use std::sync::ledger::Ledger;
 use sys_faults::Answer;
@@ -76,14 +76,14 @@ fn done_report(
     call: u32,
     shown: ReportOutcome,
 ) -> Result<ReportLines, NoMemory>
-    ensures { IfOk result (λ report. report ≡ ReportLine.Done client.now call shown ∷ []) }
+    ensures { IfOk result (λ report. report ≡ ReportLine.Done client.now call (CallEnd.Shown shown) ∷ []) }
 {
     let mut report = ReportLines::new(alloc);
     let client = client.copy(alloc)?;
     report.push(ReportLine::Done {
         client,
         call,
-        shown,
+        end: CallEnd::Shown(shown),
     })?;
     Ok(report)
 }
