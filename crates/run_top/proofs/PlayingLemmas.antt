@@ -1,5 +1,5 @@
 -- A line as it is acted, from what its parts answer.
-use Rattle.std.proofs.Common.{◌≡◌, ℕ, ◌-◌, ◌⊎◌, ⊎_elim, Option, Result, Err, refl, subst, sym, ap, arith}
+use Rattle.std.proofs.Common.{◌≡◌, ℕ, ◌⊎◌, ⊎_elim, Option, Result, Err, refl, subst, sym, ap, arith}
 use Rattle.fault_script.specs.declared.lines.Line.{Line}
 use Rattle.fault_script.specs.declared.lines.LineFault.{LineFault}
 use Rattle.fault_script.specs.declared.lines.LineFault.TheVariants.{Syntax, Unknown, Again, Limit, Later, NoMemory}
@@ -18,7 +18,7 @@ printed_calls (world.Refused why calls) = refl
 pub not_acted : (t : world.Turn) (why : LineFault) (new : World) (before later : ℕ) → DidNot t why before later →
     IsActed (printed_effect t) new before later (refusal why)
 not_acted t NoMemory new before later did =
-    (later - before, omega (arith, did.rises, did.within, printed_calls t), omega (arith, did.rises))
+    omega (arith, did.within, printed_calls t)
 not_acted t Syntax new before later did = (world.calls_of t, ap printed_effect did.0, did.1)
 not_acted t Unknown new before later did = (world.calls_of t, ap printed_effect did.0, did.1)
 not_acted t Again new before later did = (world.calls_of t, ap printed_effect did.0, did.1)
@@ -27,7 +27,7 @@ not_acted t Later new before later did = (world.calls_of t, ap printed_effect di
 
 refused_read : (w : World) (read : Result (Option Line) LineFault) (why : LineFault) (steps : ℕ) → read ≡ Err why →
     IsActed (effect_of w read) w steps steps (refusal why)
-refused_read w read NoMemory steps is = (0, omega arith, omega arith)
+refused_read w read NoMemory steps is = omega arith
 refused_read w read Syntax steps is = (0, ap (effect_of w) is, omega arith)
 refused_read w read Unknown steps is = (0, ap (effect_of w) is, omega arith)
 refused_read w read Again steps is = (0, ap (effect_of w) is, omega arith)
@@ -39,6 +39,6 @@ pub not_read : (w : World) (read : Result (Option Line) LineFault) (why : LineFa
     IsActed (effect_of w read) w steps steps (refusal why)
 not_read w read why steps is =
     ⊎_elim
-    (λ (e : why ≡ NoMemory). subst (λ (f : LineFault). IsActed (effect_of w read) w steps steps (refusal f)) (sym e) (0, omega arith, omega arith))
+    (λ (e : why ≡ NoMemory). subst (λ (f : LineFault). IsActed (effect_of w read) w steps steps (refusal f)) (sym e) (omega arith))
     (λ (e : read ≡ Err why). refused_read w read why steps e)
     is

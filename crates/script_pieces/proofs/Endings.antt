@@ -14,7 +14,7 @@ use Rattle.script_pieces.specs.declared.running.RunEnd.TheVariants as ends
 use Rattle.script_pieces.proofs.Counts.{ends_more}
 use Rattle.script_pieces.proofs.Wholes.{settled}
 use Rattle.script_pieces.proofs.Resumes.{resume_fresh, append_none}
-use Rattle.script_pieces.proofs.Feedings.{joined, fed_on, fed_none, added_none, added_more, faulted_more, added_as, front_behind}
+use Rattle.script_pieces.proofs.Feedings.{joined, fed_on, fed_none, added_more, within_more, faulted_more, gained_none, added_as, front_behind}
 
 -- a piece after what went on so far
 pub fed_next : {World Why : Type 0} (rules : Rules World Why) (w0 w w' : World) (p p' : Place) (bytes piece : List ℕ)
@@ -91,7 +91,7 @@ done_finish {World} {Why} rules w w' q bytes before mid after feds.WriteFailed a
 done_finish {World} {Why} rules w w' q bytes before mid after feds.NoMemory a b = (
   joined a.0 b.0,
   front_behind a.0 b.0 (resume rules w' q []) (run rules w bytes) (run_is rules w bytes ∙ a.1.on []) b.1,
-  added_more before mid after a.0 b.0 a.2 b.2,
+  within_more before mid after a.0 b.0 a.2 b.2,
 )
 
 read_twice : (left : Option (List ℕ)) (bytes piece : List ℕ)
@@ -239,7 +239,7 @@ over_fed rules w0 w w' p p' old now left faults n after into piece feds.NoMemory
 -- no memory before the first read
 pub over_starved : {World Why : Type 0} (rules : Rules World Why) (w : World) (now : Outside) → IsOver rules w now now ends.NoMemory
 over_starved rules w now =
-    ([], read_none now.left, ((part [] 0, (((run rules w []).out, refl), omega arith), added_none now.trace), refl))
+    ([], read_none now.left, ((part [] 0, (((run rules w []).out, refl), omega arith), (gained_none now.trace.holds, refl, omega arith)), refl))
 
 not_none : (xs : List ℕ) → Some xs ≡ None → ⊥
 not_none xs e = cc

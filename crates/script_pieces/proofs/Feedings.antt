@@ -7,7 +7,7 @@ use Rattle.std.proofs.lemmas.Bool.{cond-false}
 use Rattle.ft_outside.specs.Outside.{next_count, IsWrittenWhole}
 use Rattle.ft_outside.specs.declared.wholes.WholeWrite.TheVariants as writes
 use Rattle.script_pieces.specs.Runs.{LineEffect, Goes, Stops, calls_of, Rules, RunEffect, script_limit, lines_of, no_effect, refusal, behind, onward, run_of_lines}
-use Rattle.script_pieces.specs.Feeds.{Place, Point, PartEffect, Trace, IsInLine, kept_limit, place_after_line, place_in_line, point, part, trace, resume, run_from, IsActed, Leads, Refuses, Begins, IsFront, IsGain, IsAdded, IsAddedAtFault, IsFed, IsDone, line_ends, IsCounted}
+use Rattle.script_pieces.specs.Feeds.{Place, Point, PartEffect, Trace, IsInLine, kept_limit, place_after_line, place_in_line, point, part, trace, resume, run_from, IsActed, Leads, Refuses, Begins, IsFront, IsGain, IsAdded, IsAddedWithin, IsAddedAtFault, IsFed, IsDone, line_ends, IsCounted}
 use Rattle.script_pieces.specs.declared.actors.LineResult.{LineResult}
 use Rattle.script_pieces.specs.declared.actors.LineResult.TheVariants as results
 use Rattle.script_pieces.specs.declared.feeding.FeedResult.{FeedResult}
@@ -40,6 +40,9 @@ added_none t = (gained_none t.holds, refl, sym (add-zero t.calls))
 
 pub added_more : (t u v : Trace) (a b : PartEffect) → IsAdded t u a → IsAdded u v b → IsAdded t v (joined a b)
 added_more t u v a b x y = (gained_more t.holds u.holds v.holds a.out b.out x.0 y.0, y.1 ∙ x.1, omega (arith, x.2, y.2))
+
+pub within_more : (t u v : Trace) (a b : PartEffect) → IsAdded t u a → IsAddedWithin u v b → IsAddedWithin t v (joined a b)
+within_more t u v a b x y = (gained_more t.holds u.holds v.holds a.out b.out x.0 y.0, y.1 ∙ x.1, omega (arith, x.2, y.2))
 
 pub faulted_more : (t u v : Trace) (a b : PartEffect) → IsAdded t u a → IsAddedAtFault u v b → IsAddedAtFault t v (joined a b)
 faulted_more t u v a b x y = (gained_more t.holds u.holds v.holds a.out b.out x.0 y.0, y.1 ∙ ap next_count x.1, omega (arith, x.2, y.2))
@@ -126,7 +129,7 @@ fed_on rules from w w' p p' rest0 line rest before mid after feds.WriteFailed a 
 fed_on rules from w w' p p' rest0 line rest before mid after feds.NoMemory a e b = (
   joined a.0 b.0,
   begins_on rules from w p rest0 line rest a.0 b.0 a.1 e b.1,
-  added_more before mid after a.0 b.0 a.2 b.2,
+  within_more before mid after a.0 b.0 a.2 b.2,
 )
 
 -- nothing is fed yet
@@ -182,14 +185,14 @@ pub fed_starved : {World Why : Type 0} (rules : Rules World Why) (w w' : World) 
     → IsActed (rules.effect w (p.begun ++ text)) w' s s' results.NoMemory
     → IsFed rules (point w p (text ++ 10 ∷ [])) (trace h f s) (point w' q []) (trace h f s') feds.NoMemory
 fed_starved rules w w' p q text h f s s' i small acted = (
-  part [] acted.0,
+  part [] (calls_of (rules.effect w (p.begun ++ text))),
   record {
     on = λ more. (
       ((resume rules w p (lines_of ((text ++ 10 ∷ []) ++ more))).out, refl),
-      omega (arith, acted.1, line_calls rules w p text more i small),
+      line_calls rules w p text more i small,
     );
   },
-  (gained_none h, refl, acted.2),
+  (gained_none h, refl, acted),
 )
 
 pub next_same : (p r q : Place) (n m : ℕ) → q ≡ place_after_line r m → m ≡ n → r.number ≡ p.number → r.read ≡ p.read → q ≡ place_after_line p n
@@ -325,10 +328,10 @@ done_starved {World} {Why} rules w w' p h f s s' some acted =
     let last : World → RunEffect Why = λ next. no_effect in
     let ran : resume rules w p [] ≡ onward (rules.effect w p.begun) p.number last =
     cond-false (length p.begun == 0) no_effect (onward (rules.effect w p.begun) p.number last) some in (
-      part [] acted.0,
+      part [] (calls_of (rules.effect w p.begun)),
       (
         ((resume rules w p []).out, refl),
-        omega (arith, acted.1, ap (λ (r : RunEffect Why). r.calls) ran, effect_calls (rules.effect w p.begun) p.number last),
+        omega (arith, ap (λ (r : RunEffect Why). r.calls) ran, effect_calls (rules.effect w p.begun) p.number last),
       ),
-      (gained_none h, refl, acted.2),
+      (gained_none h, refl, acted),
     )

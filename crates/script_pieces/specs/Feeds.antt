@@ -75,14 +75,13 @@ part_of run = part run.out run.calls
 abbrev pub IsFront : {Why : Type 0} → PartEffect → RunEffect Why → Type 0
 IsFront part run = ((tail : List ℕ) × (run.out ≡ part.out ++ tail)) × (part.calls ≤ run.calls)
 
--- what a line's text did, by what is answered
+-- what a line's text did, by what is answered; where memory was wanted, at most its servant calls
 abbrev pub IsActed : {World Why : Type 0} → LineEffect World Why → World → ℕ → ℕ → LineResult Why → Type 0
 IsActed effect after before steps (results.Goes printed) =
     (calls : ℕ) × (effect ≡ Goes after printed calls) × (steps ≡ before + calls)
 IsActed effect after before steps (results.Stops why) =
     (calls : ℕ) × (effect ≡ Stops why calls) × (steps ≡ before + calls)
-IsActed effect after before steps results.NoMemory =
-    (calls : ℕ) × (calls ≤ calls_of effect) × (steps ≡ before + calls)
+IsActed effect after before steps results.NoMemory = steps ≤ before + calls_of effect
 
 -- a fact where the line went on
 abbrev pub IfGoes : {Why : Type 0} → LineResult Why → Type 0 → Type 0
@@ -122,6 +121,11 @@ abbrev pub IsAdded : Trace → Trace → PartEffect → Type 0
 IsAdded before after part =
     IsGain before.holds after.holds part.out × (after.faults ≡ before.faults) × (after.calls ≡ before.calls + part.calls)
 
+-- this part was left outside, with no fault, and at most its servant calls
+abbrev pub IsAddedWithin : Trace → Trace → PartEffect → Type 0
+IsAddedWithin before after part =
+    IsGain before.holds after.holds part.out × (after.faults ≡ before.faults) × (after.calls ≤ before.calls + part.calls)
+
 -- this part was left outside, and then one write failed
 abbrev pub IsAddedAtFault : Trace → Trace → PartEffect → Type 0
 IsAddedAtFault before after part =
@@ -147,7 +151,7 @@ IsFed rules from before to after (feds.Refused number why) =
 IsFed rules from before to after feds.WriteFailed =
     (part : PartEffect) × Begins rules from part × IsAddedAtFault before after part
 IsFed rules from before to after feds.NoMemory =
-    (part : PartEffect) × Begins rules from part × IsAdded before after part
+    (part : PartEffect) × Begins rules from part × IsAddedWithin before after part
 
 -- a fact where it went on
 abbrev pub IfOn : {Why : Type 0} → FeedResult Why → Type 0 → Type 0
@@ -163,4 +167,4 @@ IsDone run before after feds.On = (run.refused ≡ None) × IsAdded before after
 IsDone run before after (feds.Refused number why) =
     (run.refused ≡ Some (number, why)) × IsAdded before after (part_of run)
 IsDone run before after feds.WriteFailed = (part : PartEffect) × IsFront part run × IsAddedAtFault before after part
-IsDone run before after feds.NoMemory = (part : PartEffect) × IsFront part run × IsAdded before after part
+IsDone run before after feds.NoMemory = (part : PartEffect) × IsFront part run × IsAddedWithin before after part
