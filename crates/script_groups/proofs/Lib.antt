@@ -1,0 +1,6 @@
+pub mod Going
+pub mod Shown
+pub mod Telling
+pub mod Acts
+pub mod Lists
+pub mod Formers

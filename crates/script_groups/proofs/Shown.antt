@@ -1,0 +1,46 @@
+-- The views that a group has had.
+use Rattle.std.proofs.Common.{◌≡◌, ℕ, zero, suc, ◌-◌, ◌<◌, ◌≤◌, arith, Bool, true, false, cond, List, [], ◌∷◌, length, Option, Some, None, refl, sym, ap, subst, ◌∙◌}
+use Rattle.std.specs.Prelude.{slice_get, slice_index_or, nat_lt, nat_le, ◌&&◌}
+use Rattle.std.proofs.lemmas.Bool.{ltb-true, leb-true}
+use Rattle.ft_base.specs.declared.views.Style.{Style}
+use Rattle.ft_base.specs.declared.views.View.{View}
+use Rattle.group_core.specs.Telling.{shown_view}
+use Rattle.group_model.specs.Plain.{Common}
+use Rattle.group_model.specs.Views.{view_at, newest, newest_view, no_view}
+use Rattle.group_model.specs.Agreeing.{AreViews, IsViewAt}
+use Rattle.script_groups.specs.Laws.{IsShownView, ShownAreViews}
+use Rattle.ft_base.specs.declared.limits.TheConstants.{HOST_LIMIT}
+use Rattle.script_groups.specs.Acting.{IsSoundGroup}
+use Rattle.script_groups.specs.Groups.{ScriptGroup, common_of}
+use Rattle.script_groups.proofs.Lists.{all_at}
+
+got : {A : Type 0} (xs : List A) (i : ℕ) (d : A) → i < length xs → slice_get xs i ≡ Some (slice_index_or xs i d)
+got [] i d h = absurd (omega arith)
+got (x ∷ xs) zero d h = refl
+got (x ∷ xs) (suc i) d h = got xs i d (omega arith)
+
+fits : (style : Style) (view : View) (k : ℕ) → IsViewAt style k view → IsShownView view
+fits style view k is = record { hosts = is.hosts; few = is.is.few; different = is.is.different }
+
+is_shown : (c : Common) (version : ℕ) (view : View) → AreViews c.style c.views → shown_view c version ≡ Some view → IsShownView view
+is_shown c version view views = go (nat_lt 0 version) (nat_le version (newest c)) refl refl
+  where
+    go : (some last : Bool) → nat_lt 0 version ≡ some → nat_le version (newest c) ≡ last →
+        cond (some && last) (Some (view_at c.views version)) None ≡ Some view → IsShownView view
+    go false last e f is = absurd cc
+    go true false e f is = absurd cc
+    go true true e f is =
+        let inside : version - 1 < length c.views = omega (arith, ltb-true 0 version e, leb-true version (newest c) f) in
+        let same : view_at c.views version ≡ view = cc in
+        subst IsShownView same (fits c.style (view_at c.views version) (version - 1) (views.each (version - 1) (view_at c.views version) (got c.views (version - 1) no_view inside)))
+
+pub shown_is : ShownAreViews
+shown_is g version view sound is = is_shown (common_of g) version view sound.common.views is
+
+-- a host of the newest view is one that there can be
+pub newest_hosts : (g : ScriptGroup) (hosts : List ℕ) (i : ℕ) → IsSoundGroup g → hosts ≡ (newest_view (common_of g)).members → i < length hosts → slice_index_or hosts i 0 < HOST_LIMIT
+newest_hosts g hosts i sound are inside =
+    let c = common_of g in
+    let last : newest c - 1 < length c.views = omega (arith, sound.common.views.some) in
+    let view = fits c.style (view_at c.views (newest c)) (newest c - 1) (sound.common.views.each (newest c - 1) (view_at c.views (newest c)) (got c.views (newest c - 1) no_view last)) in
+    subst (λ (hs : List ℕ). i < length hs → slice_index_or hs i 0 < HOST_LIMIT) (sym are) (all_at (λ host. host < HOST_LIMIT) (newest_view c).members i 0 view.hosts) inside

@@ -1,0 +1,61 @@
+-- What holds of a group of a script after one more event.
+use Rattle.std.specs.Prelude.{◌≡◌, ℕ, ◌<◌, ◌≤◌, false, List, length, Some}
+use Rattle.std.specs.List.{AllByRecursion}
+use Rattle.ft_base.specs.Members.{AreDifferent}
+use Rattle.ft_base.specs.declared.limits.TheConstants.{HOST_LIMIT}
+use Rattle.ft_base.specs.declared.views.TheConstants.{MEMBER_LIMIT}
+use Rattle.ft_base.specs.declared.decisions.Decision.{Decision}
+use Rattle.ft_base.specs.declared.decisions.Stop.{Stop}
+use Rattle.ft_base.specs.declared.numbers.HostNo.{HostNo}
+use Rattle.ft_base.specs.declared.numbers.Tick.{Tick}
+use Rattle.ft_base.specs.declared.views.View.{View}
+use Rattle.sys_faults.specs.declared.answers.Answer.{Answer}
+use Rattle.group_core.specs.Telling.{shown_view}
+use Rattle.group_model.specs.declared.asking.Asked.{Asked}
+use Rattle.group_model.specs.declared.events.Event.{Event}
+use Rattle.group_model.specs.declared.events.Event.TheVariants as events
+use Rattle.group_model.specs.declared.events.GroupAnswer.TheVariants as answers
+use Rattle.group_model.specs.declared.events.Out.{Out}
+use Rattle.group_model.specs.Answering.{IsAnswered}
+use Rattle.group_model.specs.Events.{after_event}
+use Rattle.group_model.specs.Laws.{Grows, Lasts}
+use Rattle.group_model.specs.Sending.{brought, sent_by}
+use Rattle.script_groups.specs.Acting.{IsSoundGroup, MayCome}
+use Rattle.script_groups.specs.Groups.{ScriptGroup, acted, common_of, group_of, machine_of, turn}
+
+-- its plain group is that after the event
+abbrev pub HistoriesGoOn : Type 0
+HistoriesGoOn = (g : ScriptGroup) (e : Event) → group_of (acted g e) ≡ after_event (machine_of g) (group_of g) e false
+
+-- it stays sound
+abbrev pub GroupsStaySound : Type 0
+GroupsStaySound = (g : ScriptGroup) (e : Event) → IsSoundGroup g → MayCome g e → IsSoundGroup (acted g e)
+
+-- its journal and its views only get more
+abbrev pub GroupsGrow : Type 0
+GroupsGrow = (g : ScriptGroup) (e : Event) → IsSoundGroup g → MayCome g e → Grows (common_of g) (common_of (acted g e))
+
+-- what could come to it still can
+abbrev pub EventsLast : Type 0
+EventsLast = (g : ScriptGroup) (e other : Event) → IsSoundGroup g → MayCome g e → Lasts other → MayCome g other → MayCome (acted g e) other
+
+-- what it sent may come to the hosts to which it goes
+abbrev pub SentMayCome : Type 0
+SentMayCome = (g : ScriptGroup) (e : Event) → IsSoundGroup g → MayCome g e →
+    AllByRecursion (λ (out : Out). MayCome (acted g e) (brought out)) (sent_by (turn g e).answer)
+
+-- a request is answered in form
+abbrev pub AnswersAreInForm : Type 0
+AnswersAreInForm = (g : ScriptGroup) (host : HostNo) (clock : Tick) (asked : Asked) (stop : Stop)
+    (decision : Decision) (answer : Answer) (out : List Out) → IsSoundGroup g → MayCome g (events.Request host clock asked stop) →
+    (turn g (events.Request host clock asked stop)).answer ≡ answers.Reply decision (Some answer) out →
+    IsAnswered (machine_of g) (common_of (acted g (events.Request host clock asked stop))) asked.op answer
+
+-- a view that it has had: its members are hosts that there can be, and few
+pub record IsShownView (view : View) : Type 0 where
+  pub hosts : AllByRecursion (λ host. host < HOST_LIMIT) view.members
+  pub few : length view.members ≤ MEMBER_LIMIT
+  pub different : AreDifferent view.members
+
+abbrev pub ShownAreViews : Type 0
+ShownAreViews = (g : ScriptGroup) (version : ℕ) (view : View) → IsSoundGroup g → shown_view (common_of g) version ≡ Some view → IsShownView view

@@ -1,0 +1,216 @@
+ghost use Rattle.std.specs.Prelude.{◌≡◌, ◌<◌, Some, IfOk, option_copied, length};
+ghost use Rattle.std.specs.List.{AllByRecursion};
+ghost use Rattle.ft_base.specs.Members.{AreDifferent};
+ghost use Rattle.ft_base.specs.declared.limits.TheConstants.{HOST_LIMIT};
+ghost use Rattle.group_core.specs.Running.{is_short};
+ghost use Rattle.group_model.specs.Views.{newest_view};
+ghost use Rattle.script_groups.specs.Acting.{MayCome, IsActed, IsKept, IsSoundGroup};
+ghost use Rattle.script_groups.specs.Groups.{common_of, opened, signature_of};
+ghost use Rattle.group_core.specs.Telling.{shown_view};
+ghost use Rattle.script_groups.specs.Standing.{IsStanding};
+
+use ft_base::{GroupId, Members, Name, NoMemory, Signature, Steps, Style, Tick, Version, View};
+use ft_outside::MemKeeper;
+use group_core::{GroupCore, cores_tell, unfailing_logs_show_no_fault};
+use group_history::History;
+use group_model::{Event, GroupAnswer, groups_grow};
+use shipped_servants::{Kind, Shipped};
+use std::alloc::Global;
+use std::marker::Model;
+use std::sync::ledger::Ledger;
+
+/// A group of a script. Contracts see it as how it opened and the events that it has had since; the core
+/// stands for the plain group that these make.
+///
+/// Where memory is wanted in an event the group is poisoned: what its core holds is no longer that of its
+/// events.
+#[derive(Drop)]
+pub struct ScriptGroup {
+    id: GroupId,
+    name: Name,
+    kind: Kind,
+    style: Style,
+    members: Members,
+    history: History,
+    poisoned: bool,
+    core: GroupCore<Shipped, MemKeeper>,
+}
+
+impl Model for ScriptGroup {
+    ghost use Rattle.script_groups.specs.Groups.{ScriptGroup as Seen};
+    ghost use Rattle.script_groups.specs.Viewing.{seen};
+    ghost use Rattle.script_groups.specs.Standing.{StandsUnlessPoisoned};
+
+    ghost Value = { Seen };
+
+    ghost view = { seen };
+
+    ghost invariant = { λ g. StandsUnlessPoisoned g.core (seen g) };
+}
+
+/// Whether memory was wanted.
+fn is_short(answer: &GroupAnswer) -> bool
+    ensures { result ≡ is_short answer.now }
+{
+    match answer {
+        GroupAnswer::NoMemory => true,
+        _ => false,
+    }
+}
+
+impl ScriptGroup {
+    /// A group at its opening, with its first view; all hosts are up.
+    pub fn new(
+        alloc: Global,
+        id: GroupId,
+        name: Name,
+        kind: Kind,
+        style: Style,
+        members: Members,
+    ) -> Result<ScriptGroup, NoMemory>
+        requires hosts { AllByRecursion (λ host. host < HOST_LIMIT) members }
+        requires different { AreDifferent members }
+        ensures { IfOk result (λ group. group ≡ opened id name kind style members) }
+    {
+        let opening = Shipped::open(alloc, kind)?;
+        let keeper = MemKeeper::new(alloc, &[])?;
+        let first = members.copy();
+        match GroupCore::new(alloc, id, style, opening, members, keeper) {
+            Ok(core) => Ok(ScriptGroup {
+                id,
+                name,
+                kind,
+                style,
+                members: first,
+                history: History::new(),
+                poisoned: false,
+                core,
+            }),
+            // no write of a fresh keeper fails
+            Err(_) => Err(NoMemory),
+        }
+    }
+
+    /// Its number.
+    pub fn id(&self) -> GroupId
+        ensures { result ≡ self.now.id }
+    {
+        self.id
+    }
+
+    /// Its name.
+    pub fn name(&self) -> &Name
+        ensures { result.now ≡ self.now.name }
+    {
+        &self.name
+    }
+
+    /// The kind of its servant.
+    pub fn kind(&self) -> Kind
+        ensures { result ≡ self.now.kind }
+    {
+        self.kind
+    }
+
+    /// What its servant says of an operation.
+    pub fn signature(&self, op: &Name) -> Option<Signature>
+        requires { IsKept self.now }
+        ensures { result ≡ signature_of self.now op.now }
+    {
+        cores_tell();
+        self.core.signature(op)
+    }
+
+    /// Its newest view.
+    pub fn newest(&self) -> &View
+        requires { IsKept self.now }
+        ensures { result.now ≡ newest_view (common_of self.now) }
+    {
+        cores_tell();
+        self.core.log().newest()
+    }
+
+    /// Its view of a version; none exactly where it has had no such view.
+    pub fn view(&self, version: Version) -> Option<&View>
+        requires { IsKept self.now }
+        ensures { option_copied result ≡ shown_view (common_of self.now) version.0 }
+    {
+        cores_tell();
+        self.core.view(version)
+    }
+
+    /// How many requests it has accepted.
+    pub fn entries(&self) -> u32
+        requires { IsKept self.now }
+        ensures { result ≡ length (common_of self.now).journal }
+    {
+        cores_tell();
+        self.core.log().length()
+    }
+
+    /// How many of them the newest checkpoint covers.
+    pub(crate) fn mark(&self) -> u32
+        requires { IsKept self.now }
+        ensures { result ≡ (common_of self.now).mark }
+    {
+        cores_tell();
+        self.core.log().mark()
+    }
+
+    /// The greatest tick of an acceptance or a checkpoint.
+    pub(crate) fn time(&self) -> Tick
+        requires { IsKept self.now }
+        ensures { result.0 ≡ (common_of self.now).time }
+    {
+        cores_tell();
+        self.core.log().time()
+    }
+
+    /// How its members share its work.
+    pub(crate) fn style(&self) -> Style
+        requires { IsKept self.now }
+        ensures { result ≡ (common_of self.now).style }
+    {
+        cores_tell();
+        self.core.style()
+    }
+
+    /// Its core, for what is read of hosts.
+    pub(crate) fn core(&self) -> &GroupCore<Shipped, MemKeeper>
+        requires { IsKept self.now }
+        ensures { IsStanding result.now self.now }
+    {
+        &self.core
+    }
+
+    /// Its plain group is sound. The function does nothing.
+    pub fn is_sound(&self)
+        requires { IsKept self.now }
+        ensures { IsSoundGroup self.now }
+    {
+        let _style = self.style;
+    }
+
+    /// Acts an event that may come to the group.
+    pub fn act<L: Ledger>(
+        &mut self,
+        alloc: Global,
+        event: Event,
+        steps: &mut Steps<L>,
+    ) -> GroupAnswer
+        requires kept { IsKept self.old }
+        requires may { MayCome self.old event }
+        ensures { IsActed self.old event result self.new steps.old steps.new }
+    {
+        unfailing_logs_show_no_fault();
+        groups_grow();
+        let history = History::with(&self.history, &event);
+        let answer = self.core.act(alloc, event, steps);
+        if is_short(&answer) {
+            self.poisoned = true;
+            return answer;
+        }
+        self.history = history;
+        answer
+    }
+}

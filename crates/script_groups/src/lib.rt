@@ -1,0 +1,11 @@
+//! The groups of a script: each has a name, a kind of servant, and the core of a group over a log in memory.
+//! (Chapter 23, "Replication Management".)
+#![tactic(auto)]
+
+mod groups;
+mod laws;
+mod references;
+mod showing;
+
+pub use groups::ScriptGroup;
+pub use laws::{answers_are_in_form, groups_go_on, shown_are_views};

@@ -1,0 +1,4 @@
+pub mod World
+pub mod Standing
+pub mod Sound
+pub mod Worlds

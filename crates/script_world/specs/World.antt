@@ -1,0 +1,95 @@
+-- The world of a script: its clock, hosts, groups, clients and messages, and the small changes of it.
+use Rattle.std.specs.Prelude.{ℕ, ◌+◌, ◌-◌, ◌++◌, ◌==◌, Bool, true, false, nat_lt, if◌then◌else◌, List, [], ◌∷◌, length, map, replicate, slice_get, slice_set, Option, Some, None}
+use Rattle.std.specs.List.{list_any}
+use Rattle.std.specs.Str.{bytes_eq}
+use Rattle.ft_base.specs.declared.numbers.GroupId.{GroupId}
+use Rattle.group_model.specs.declared.events.Event.{Event}
+use Rattle.group_model.specs.declared.events.Out.{Out}
+use Rattle.script_clients.specs.Clients.{Client}
+use Rattle.script_groups.specs.Groups.{ScriptGroup, Placed, acted, all_acted, found}
+use Rattle.script_world.specs.declared.hosts.HostState.{HostState}
+use Rattle.script_world.specs.declared.messages.Message.{Message}
+use Rattle.script_world.specs.declared.messages.Message.TheVariants as messages
+
+pub record World : Type 0 where
+  pub clock : ℕ
+  -- by number
+  pub hosts : List HostState
+  pub groups : List ScriptGroup
+  pub clients : List Client
+  -- all messages that were ever sent; message K is the K-th
+  pub messages : List Message
+
+abbrev pub empty : World
+empty = record { clock = 0; hosts = []; groups = []; clients = []; messages = [] }
+
+-- ---- what is there
+
+abbrev pub is_there : World → ℕ → Bool
+is_there w host = nat_lt host (length w.hosts)
+
+-- a host that isn't there is down
+abbrev pub up_of : Option HostState → Bool
+up_of None = false
+up_of (Some h) = h.up
+
+abbrev pub is_up : World → ℕ → Bool
+is_up w host = up_of (slice_get w.hosts host)
+
+abbrev pub clock_of : Option HostState → ℕ
+clock_of None = 0
+clock_of (Some h) = h.clock
+
+abbrev pub host_clock : World → ℕ → ℕ
+host_clock w host = clock_of (slice_get w.hosts host)
+
+abbrev pub client_named : World → List ℕ → Option (Placed Client)
+client_named w name = found (λ (c : Client). bytes_eq c.name name) 0 w.clients
+
+-- a group or a client was made with this name
+abbrev pub is_named : World → List ℕ → Bool
+is_named w name =
+    if list_any (λ (g : ScriptGroup). bytes_eq g.name name) w.groups then true
+    else list_any (λ (c : Client). bytes_eq c.name name) w.clients
+
+abbrev pub message_numbered : World → ℕ → Option Message
+message_numbered w k = if k == 0 then None else slice_get w.messages (k - 1)
+
+-- ---- changes
+
+abbrev pub with_event : World → ℕ → ScriptGroup → Event → World
+with_event w place g e = record w { groups = slice_set w.groups place (acted g e) }
+
+abbrev pub with_client : World → ℕ → Client → World
+with_client w place c = record w { clients = slice_set w.clients place c }
+
+-- what a group sent, on its way
+abbrev pub carried : GroupId → Out → Message
+carried group out = messages.Carried group out
+
+abbrev pub with_messages : World → List Message → World
+with_messages w more = record w { messages = w.messages ++ more }
+
+-- a host in another state, of which every group hears by this event
+abbrev pub with_host : World → ℕ → HostState → Event → World
+with_host w host state e = record w { hosts = slice_set w.hosts host state; groups = all_acted e w.groups }
+
+-- a host of a script that just began
+abbrev pub fresh_host : HostState
+fresh_host = record { up = true; clock = 0 }
+
+abbrev pub with_hosts : World → ℕ → World
+with_hosts w count = record w { hosts = replicate count fresh_host }
+
+abbrev pub with_group : World → ScriptGroup → World
+with_group w g = record w { groups = w.groups ++ g ∷ [] }
+
+abbrev pub with_one_client : World → Client → World
+with_one_client w c = record w { clients = w.clients ++ c ∷ [] }
+
+-- the clock of a host that is down stands still
+abbrev pub ticked : ℕ → HostState → HostState
+ticked ticks h = if h.up then record h { clock = h.clock + ticks } else h
+
+abbrev pub passed : World → ℕ → World
+passed w ticks = record w { clock = w.clock + ticks; hosts = map (ticked ticks) w.hosts }

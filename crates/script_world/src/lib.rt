@@ -1,0 +1,13 @@
+//! The world of a script: its hosts, groups and clients, and every message that was sent. Each call of it is
+//! a small change or a look; what the lines of a script make of it stands above.
+#![tactic(auto)]
+
+mod hosts;
+mod limits;
+mod messages;
+mod worlds;
+
+pub use hosts::HostState;
+pub use limits::{CLIENT_LIMIT, DEFAULT_LIFE, ENTRY_LIMIT, GROUP_LIMIT, MESSAGE_LIMIT};
+pub use messages::{Message, Reply};
+pub use worlds::{Begun, World};
