@@ -1,16 +1,24 @@
 -- What is read is of its form.
 use Rattle.std.proofs.Common.{◌≡◌, ℕ, ◌≤◌, ◌^◌, ◌==◌, ◌&&◌, ◌∙◌, Bool, true, false, List, [], ◌∷◌, Option, Some, None, Result, Ok, Err, arith, nat_lt, sym, ap, subst, cond, refl}
-use Rattle.std.specs.Prelude.{codes, option_and_then, is_some}
-use Rattle.std.specs.List.{list_all}
+use Rattle.std.specs.Prelude.{codes, option_map, option_and_then}
+use Rattle.std.specs.List.{AllZip}
 use Rattle.std.specs.Str.{bytes_eq}
 use Rattle.std.proofs.lemmas.Bool.{and_parts, ltb-true}
 use Rattle.std.proofs.lemmas.Bool.Decides.{nat_tests}
 use Rattle.std.proofs.lemmas.Slice.Eq.{bytes_eq-Decides}
+use Rattle.ft_base.specs.declared.decisions.Stop.{Stop}
+use Rattle.ft_base.specs.declared.decisions.Stop.TheVariants as stops
+use Rattle.ft_base.specs.declared.views.Style.{Style}
+use Rattle.ft_base.specs.declared.views.Style.TheVariants as styles
 use Rattle.fault_script.specs.Words.{is_comment, is_script_name, is_operation, only}
-use Rattle.fault_script.specs.Numbers.{is_number, number, capped, from_one, positive_number}
+use Rattle.fault_script.specs.Numbers.{number, capped, host_number, host_numbers, from_one, positive_number}
 use Rattle.fault_script.specs.Arguments.{octets_of}
-use Rattle.fault_script.specs.Forms.{is_unbuilt, verb, hosts_of, hosts_line, is_kind, is_style, is_group_form, member_of, built_group, group_line, client_line, call_line, is_stop, deliver_of, deliver_line, tick_of, tick_line, show_line, inject_at, inject_line, line_of_verb, line_of, as_some, parse_words}
-use Rattle.fault_script.specs.Grammar.{Spells, IsNumber}
+use Rattle.fault_script.specs.Forms.{is_unbuilt, change_of, verb, only_host, hosts_of, hosts_line, kind_of, style_of, built_group, group_of, group_line, client_line, call_line, stop_named, stop_of, deliver_of, deliver_line, tick_of, tick_line, show_line, inject_of, inject_line, change_at, change_line, crash_of, restart_of, line_of_verb, line_of, as_some, parse_words}
+use Rattle.fault_script.specs.Grammar.{Spells, IsNumber, kind_word, stop_words, change_word}
+use Rattle.fault_script.specs.declared.lines.KindWord.{KindWord}
+use Rattle.fault_script.specs.declared.lines.KindWord.TheVariants as kinds
+use Rattle.fault_script.specs.declared.lines.MemberChange.{MemberChange}
+use Rattle.fault_script.specs.declared.lines.MemberChange.TheVariants as changes
 use Rattle.fault_script.specs.declared.lines.Line.{Line}
 use Rattle.fault_script.specs.declared.lines.Line.TheVariants as lines
 use Rattle.fault_script.specs.declared.lines.LineFault.{LineFault}
@@ -48,6 +56,27 @@ positive_some word kept e =
     let go : (n : Option ℕ) → P n = λ n. elim n as P [ None ↦ λ a b. cc | Some value ↦ λ a b. from_one_some word kept value a b ] in
     go (number word) refl e
 
+-- the number of a host
+host_case : (word : List ℕ) (kept : ℕ) (value : Option ℕ) → number word ≡ value → option_map capped value ≡ Some kept → IsNumber word kept
+host_case word kept None a b = cc
+host_case word kept (Some value) a b = let same : capped value ≡ kept = cc in (value, a, sym same)
+
+host_some : (word : List ℕ) (kept : ℕ) → host_number word ≡ Some kept → IsNumber word kept
+host_some word kept e = host_case word kept (number word) refl e
+
+only_host_some : (words : List (List ℕ)) (kept : ℕ) → only_host words ≡ Some kept → (digits : List ℕ) × (words ≡ digits ∷ []) × IsNumber digits kept
+only_host_some [] kept e = cc
+only_host_some (word ∷ []) kept e = (word, refl, host_some word kept e)
+only_host_some (word ∷ next ∷ rest) kept e = cc
+
+-- the first of some texts that a word is
+text_case : {X Y : Type 0} (around : List ℕ → Y) (spelling : X → Y) (b : Bool) (word text : List ℕ) (here found : X) (others : Option X) → bytes_eq word text ≡ b
+    → spelling here ≡ around text → (others ≡ Some found → around word ≡ spelling found) → cond b (Some here) others ≡ Some found → around word ≡ spelling found
+text_case around spelling true word text here found others test is_text more e =
+    let same : here ≡ found = cc in
+    ap around (same_text word text test) ∙ sym is_text ∙ ap spelling same
+text_case around spelling false word text here found others test is_text more e = more e
+
 -- hosts
 hosts_found : (word : List ℕ) (count : Option ℕ) (line : Line) → positive_number word ≡ count → hosts_of count ≡ Ok line → Spells (codes "hosts" ∷ word ∷ []) line
 hosts_found word None line a b = cc
@@ -62,36 +91,72 @@ hosts_spelled (word ∷ []) line e = hosts_found word (positive_number word) lin
 hosts_spelled (word ∷ next ∷ rest) line e = cc
 
 -- group
-member_found : (name digits : List ℕ) (host : Option ℕ) (line : Line) → is_script_name name ≡ true → number digits ≡ host → member_of name host ≡ Ok line
-    → Spells (codes "group" ∷ name ∷ codes "account" ∷ codes "cold" ∷ digits ∷ []) line
-member_found name digits None line named a b = cc
-member_found name digits (Some host) line named a b =
-    let same : lines.Group name (capped host) ≡ line = cc in
-    subst (λ (l : Line). Spells (codes "group" ∷ name ∷ codes "account" ∷ codes "cold" ∷ digits ∷ []) l) same
-    (digits, refl, named, (host, a, refl))
+kind_named : (word : List ℕ) (kind : KindWord) → kind_of word ≡ Some kind → word ≡ kind_word kind
+kind_named word kind =
+    text_case (λ w. w) kind_word (bytes_eq word (codes "account")) word (codes "account") kinds.Account kind _ refl refl
+    (text_case (λ w. w) kind_word (bytes_eq word (codes "store")) word (codes "store") kinds.Store kind _ refl refl
+    (text_case (λ w. w) kind_word (bytes_eq word (codes "queue")) word (codes "queue") kinds.Queue kind None refl refl (λ e. cc)))
 
-members_found : (name : List ℕ) (hosts : List (List ℕ)) (line : Line) → is_script_name name ≡ true → member_of name (option_and_then number (only hosts)) ≡ Ok line
-    → Spells (codes "group" ∷ name ∷ codes "account" ∷ codes "cold" ∷ hosts) line
-members_found name [] line named e = cc
-members_found name (digits ∷ []) line named e = member_found name digits (number digits) line named refl e
-members_found name (digits ∷ next ∷ rest) line named e = cc
+style_word : Style → List ℕ
+style_word styles.Cold = codes "cold"
+style_word styles.Warm = codes "warm"
+style_word styles.Active = codes "active"
+
+style_named : (word : List ℕ) (style : Style) → style_of word ≡ Some style → word ≡ style_word style
+unfolding style_word
+style_named word style =
+    text_case (λ w. w) style_word (bytes_eq word (codes "cold")) word (codes "cold") styles.Cold style _ refl refl
+    (text_case (λ w. w) style_word (bytes_eq word (codes "warm")) word (codes "warm") styles.Warm style _ refl refl
+    (text_case (λ w. w) style_word (bytes_eq word (codes "active")) word (codes "active") styles.Active style None refl refl (λ e. cc)))
+
+members_case : (word : List ℕ) (words : List (List ℕ)) (members : List ℕ) (host : Option ℕ) (hosts : Option (List ℕ)) → host_number word ≡ host
+    → ((others : List ℕ) → hosts ≡ Some others → AllZip IsNumber words others)
+    → option_and_then (λ h. option_map (λ hs. h ∷ hs) hosts) host ≡ Some members → AllZip IsNumber (word ∷ words) members
+members_case word words members None hosts a more e = cc
+members_case word words members (Some host) None a more e = cc
+members_case word words members (Some host) (Some hosts) a more e =
+    let same : host ∷ hosts ≡ members = cc in
+    subst (λ (ms : List ℕ). AllZip IsNumber (word ∷ words) ms) same (host_some word host a, more hosts refl)
+
+members_some : (words : List (List ℕ)) (members : List ℕ) → host_numbers words ≡ Some members → AllZip IsNumber words members
+members_some [] members e = let same : [] ≡ members = cc in subst (λ (ms : List ℕ). AllZip IsNumber [] ms) same tt
+members_some (word ∷ words) members e =
+    members_case word words members (host_number word) (host_numbers words) refl (members_some words) e
+
+cold_found : (name kind style : List ℕ) (digits : List (List ℕ)) (k : KindWord) (members : List ℕ) → is_script_name name ≡ true → kind ≡ kind_word k
+    → style ≡ codes "cold" → host_numbers digits ≡ Some members → Spells (codes "group" ∷ name ∷ kind ∷ style ∷ digits) (lines.Group name k styles.Cold members)
+cold_found name kind style digits k members named kind_is style_is read =
+    let words_are = ap (λ (w : List ℕ). codes "group" ∷ name ∷ w ∷ style ∷ digits) kind_is
+    ∙ ap (λ (w : List ℕ). codes "group" ∷ name ∷ kind_word k ∷ w ∷ digits) style_is in
+    (digits, words_are, named, refl, members_some digits members read)
+
+built_found : (name kind style : List ℕ) (digits : List (List ℕ)) (k : KindWord) (s : Style) (members : List ℕ) (line : Line) → is_script_name name ≡ true
+    → kind ≡ kind_word k → style ≡ style_word s → host_numbers digits ≡ Some members → built_group name k s members ≡ Ok line
+    → Spells (codes "group" ∷ name ∷ kind ∷ style ∷ digits) line
+unfolding style_word
+built_found name kind style digits k styles.Cold members line named kind_is style_is read e =
+    let same : lines.Group name k styles.Cold members ≡ line = cc in
+    subst (λ (l : Line). Spells (codes "group" ∷ name ∷ kind ∷ style ∷ digits) l) same
+    (cold_found name kind style digits k members named kind_is style_is read)
+built_found name kind style digits k styles.Warm members line named kind_is style_is read e = cc
+built_found name kind style digits k styles.Active members line named kind_is style_is read e = cc
+
+group_found : (name kind style : List ℕ) (digits : List (List ℕ)) (k : Option KindWord) (s : Option Style) (members : Option (List ℕ)) (line : Line)
+    → is_script_name name ≡ true → kind_of kind ≡ k → style_of style ≡ s → host_numbers digits ≡ members → group_of name k s members ≡ Ok line
+    → Spells (codes "group" ∷ name ∷ kind ∷ style ∷ digits) line
+group_found name kind style digits None s members line named a b c e = cc
+group_found name kind style digits (Some k) None members line named a b c e = cc
+group_found name kind style digits (Some k) (Some s) None line named a b c e = cc
+group_found name kind style digits (Some k) (Some s) (Some members) line named a b c e =
+    built_found name kind style digits k s members line named (kind_named kind k a) (style_named style s b) c e
 
 group_spelled : (rest : List (List ℕ)) (line : Line) → group_line rest ≡ Ok line → Spells (codes "group" ∷ rest) line
 group_spelled [] line e = cc
 group_spelled (name ∷ []) line e = cc
 group_spelled (name ∷ kind ∷ []) line e = cc
 group_spelled (name ∷ kind ∷ style ∷ hosts) line e =
-    let form = guarded (is_group_form name kind style hosts) (built_group name kind style hosts) Syntax line e in
-    let built = guarded (bytes_eq kind (codes "account") && bytes_eq style (codes "cold")) (member_of name (option_and_then number (only hosts))) Later line form.1 in
-    let both = and_parts (bytes_eq kind (codes "account")) (bytes_eq style (codes "cold")) built.0 in
-    let kind_is = same_text kind (codes "account") both.0 in
-    let style_is = same_text style (codes "cold") both.1 in
-    let three = and_parts (is_script_name name && is_kind kind && is_style style) (list_all is_number hosts) form.0 in
-    let two = and_parts (is_script_name name && is_kind kind) (is_style style) three.0 in
-    let one = and_parts (is_script_name name) (is_kind kind) two.0 in
-    subst (λ (k : List ℕ). Spells (codes "group" ∷ name ∷ k ∷ style ∷ hosts) line) (sym kind_is)
-    (subst (λ (t : List ℕ). Spells (codes "group" ∷ name ∷ codes "account" ∷ t ∷ hosts) line) (sym style_is)
-    (members_found name hosts line one.0 built.1))
+    let form = guarded (is_script_name name) (group_of name (kind_of kind) (style_of style) (host_numbers hosts)) Syntax line e in
+    group_found name kind style hosts (kind_of kind) (style_of style) (host_numbers hosts) line form.0 refl refl refl form.1
 
 -- client and show
 client_spelled : (rest : List (List ℕ)) (line : Line) → client_line rest ≡ Ok line → Spells (codes "client" ∷ rest) line
@@ -123,24 +188,39 @@ call_spelled (client ∷ group ∷ op ∷ rest) line e =
     subst (λ (l : Line). Spells (codes "call" ∷ client ∷ group ∷ op ∷ rest) l) same (refl, one.0, one.1, two.1)
 
 -- deliver
-deliver_found : (word : List ℕ) (message : Option ℕ) (line : Line) → positive_number word ≡ message → deliver_of message ≡ Ok line → Spells (codes "deliver" ∷ word ∷ []) line
-deliver_found word None line a b = cc
-deliver_found word (Some message) line a b =
-    let number_from_one = positive_some word message a in
-    let same : lines.Deliver message ≡ line = cc in
-    subst (λ (l : Line). Spells (codes "deliver" ∷ word ∷ []) l) same (word, refl, number_from_one.0, number_from_one.1)
+stop_is : (word : List ℕ) (stop : Stop) → stop_named word ≡ Some stop → codes "crash" ∷ word ∷ [] ≡ stop_words stop
+stop_is word stop =
+    text_case (λ (w : List ℕ). codes "crash" ∷ w ∷ []) stop_words (bytes_eq word (codes "append")) word (codes "append") stops.AfterAppend stop _ refl refl
+    (text_case (λ (w : List ℕ). codes "crash" ∷ w ∷ []) stop_words (bytes_eq word (codes "execute")) word (codes "execute") stops.AfterExecute stop None refl refl (λ e. cc))
 
-no_line : (b : Bool) (P : Type 0) (line : Line) → cond b (Err Later) (Err Syntax) ≡ Ok line → P
-no_line true P line e = cc
-no_line false P line e = cc
+stop_behind : (rest : List (List ℕ)) (stop : Stop) → option_and_then stop_named (only rest) ≡ Some stop → codes "crash" ∷ rest ≡ stop_words stop
+stop_behind [] stop e = cc
+stop_behind (word ∷ []) stop e = stop_is word stop e
+stop_behind (word ∷ next ∷ rest) stop e = cc
+
+crash_case : (b : Bool) (word : List ℕ) (rest : List (List ℕ)) (stop : Stop) → bytes_eq word (codes "crash") ≡ b
+    → cond b (option_and_then stop_named (only rest)) None ≡ Some stop → word ∷ rest ≡ stop_words stop
+crash_case true word rest stop test e =
+    ap (λ (w : List ℕ). w ∷ rest) (same_text word (codes "crash") test) ∙ stop_behind rest stop e
+crash_case false word rest stop test e = cc
+
+stop_spelled : (words : List (List ℕ)) (stop : Stop) → stop_of words ≡ Some stop → words ≡ stop_words stop
+stop_spelled [] stop e = let same : stops.Never ≡ stop = cc in ap stop_words same
+stop_spelled (word ∷ rest) stop e = crash_case (bytes_eq word (codes "crash")) word rest stop refl e
+
+deliver_found : (word : List ℕ) (rest : List (List ℕ)) (message : Option ℕ) (stop : Option Stop) (line : Line) → positive_number word ≡ message
+    → stop_of rest ≡ stop → deliver_of message stop ≡ Ok line → Spells (codes "deliver" ∷ word ∷ rest) line
+deliver_found word rest None stop line a b e = cc
+deliver_found word rest (Some message) None line a b e = cc
+deliver_found word rest (Some message) (Some stop) line a b e =
+    let number_from_one = positive_some word message a in
+    let same : lines.Deliver message stop ≡ line = cc in
+    subst (λ (l : Line). Spells (codes "deliver" ∷ word ∷ rest) l) same
+    (word, ap (λ (ws : List (List ℕ)). codes "deliver" ∷ word ∷ ws) (stop_spelled rest stop b), number_from_one.0, number_from_one.1)
 
 deliver_spelled : (rest : List (List ℕ)) (line : Line) → deliver_line rest ≡ Ok line → Spells (codes "deliver" ∷ rest) line
 deliver_spelled [] line e = cc
-deliver_spelled (word ∷ []) line e = deliver_found word (positive_number word) line refl e
-deliver_spelled (word ∷ crash ∷ []) line e = cc
-deliver_spelled (word ∷ crash ∷ stop ∷ []) line e =
-    no_line (is_some (positive_number word) && is_stop crash stop) (Spells (codes "deliver" ∷ word ∷ crash ∷ stop ∷ []) line) line e
-deliver_spelled (word ∷ crash ∷ stop ∷ more ∷ rest) line e = cc
+deliver_spelled (word ∷ rest) line e = deliver_found word rest (positive_number word) (stop_of rest) line refl refl e
 
 -- tick
 tick_found : (word : List ℕ) (count : Option ℕ) (line : Line) → number word ≡ count → tick_of count ≡ Ok line → Spells (codes "tick" ∷ word ∷ []) line
@@ -156,24 +236,55 @@ tick_spelled (word ∷ []) line e = tick_found word (number word) line refl e
 tick_spelled (word ∷ next ∷ rest) line e = cc
 
 -- inject
-inject_found : (digits octets : List ℕ) (host : Option ℕ) (bytes : Option (List ℕ)) (line : Line) → number digits ≡ host → octets_of octets ≡ bytes
-    → inject_at host bytes ≡ Ok line → Spells (codes "inject" ∷ digits ∷ octets ∷ []) line
+inject_found : (digits octets : List ℕ) (host : Option ℕ) (bytes : Option (List ℕ)) (line : Line) → host_number digits ≡ host → octets_of octets ≡ bytes
+    → inject_of host bytes ≡ Ok line → Spells (codes "inject" ∷ digits ∷ octets ∷ []) line
 inject_found digits octets None bytes line a b e = cc
 inject_found digits octets (Some host) None line a b e = cc
 inject_found digits octets (Some host) (Some bytes) line a b e =
-    let same : lines.Inject (capped host) bytes ≡ line = cc in
-    subst (λ (l : Line). Spells (codes "inject" ∷ digits ∷ octets ∷ []) l) same (digits, octets, refl, (host, a, refl), b)
+    let same : lines.Inject host bytes ≡ line = cc in
+    subst (λ (l : Line). Spells (codes "inject" ∷ digits ∷ octets ∷ []) l) same (digits, octets, refl, host_some digits host a, b)
 
-no_inject : (host : Option ℕ) (P : Type 0) (line : Line) → inject_at host None ≡ Ok line → P
+no_inject : (host : Option ℕ) (P : Type 0) (line : Line) → inject_of host None ≡ Ok line → P
 no_inject None P line e = cc
 no_inject (Some host) P line e = cc
 
 inject_spelled : (rest : List (List ℕ)) (line : Line) → inject_line rest ≡ Ok line → Spells (codes "inject" ∷ rest) line
 inject_spelled [] line e = cc
-inject_spelled (digits ∷ []) line e = no_inject (number digits) (Spells (codes "inject" ∷ digits ∷ []) line) line e
-inject_spelled (digits ∷ octets ∷ []) line e = inject_found digits octets (number digits) (octets_of octets) line refl refl e
+inject_spelled (digits ∷ []) line e = no_inject (host_number digits) (Spells (codes "inject" ∷ digits ∷ []) line) line e
+inject_spelled (digits ∷ octets ∷ []) line e = inject_found digits octets (host_number digits) (octets_of octets) line refl refl e
 inject_spelled (digits ∷ octets ∷ next ∷ rest) line e =
-    no_inject (number digits) (Spells (codes "inject" ∷ digits ∷ octets ∷ next ∷ rest) line) line e
+    no_inject (host_number digits) (Spells (codes "inject" ∷ digits ∷ octets ∷ next ∷ rest) line) line e
+
+-- changes of members, and of hosts
+change_found : (change : MemberChange) (group : List ℕ) (rest : List (List ℕ)) (host : Option ℕ) (line : Line) → only_host rest ≡ host
+    → change_at change group host ≡ Ok line → Spells (change_word change ∷ group ∷ rest) line
+change_found change group rest None line a e = cc
+change_found change group rest (Some host) line a e =
+    let named = guarded (is_script_name group) (Ok (lines.Change change group host)) Syntax line e in
+    let same : lines.Change change group host ≡ line = cc in
+    let one = only_host_some rest host a in
+    subst (λ (l : Line). Spells (change_word change ∷ group ∷ rest) l) same
+    (one.0, ap (λ (ws : List (List ℕ)). change_word change ∷ group ∷ ws) one.1, named.0, one.2)
+
+change_spelled : (change : MemberChange) (rest : List (List ℕ)) (line : Line) → change_line change rest ≡ Ok line → Spells (change_word change ∷ rest) line
+change_spelled change [] line e = cc
+change_spelled change (group ∷ rest) line e = change_found change group rest (only_host rest) line refl e
+
+crash_found : (rest : List (List ℕ)) (host : Option ℕ) (line : Line) → only_host rest ≡ host → crash_of host ≡ Ok line → Spells (codes "crash" ∷ rest) line
+crash_found rest None line a e = cc
+crash_found rest (Some host) line a e =
+    let same : lines.Crash host ≡ line = cc in
+    let one = only_host_some rest host a in
+    subst (λ (l : Line). Spells (codes "crash" ∷ rest) l) same
+    (one.0, ap (λ (ws : List (List ℕ)). codes "crash" ∷ ws) one.1, one.2)
+
+restart_found : (rest : List (List ℕ)) (host : Option ℕ) (line : Line) → only_host rest ≡ host → restart_of host ≡ Ok line → Spells (codes "restart" ∷ rest) line
+restart_found rest None line a e = cc
+restart_found rest (Some host) line a e =
+    let same : lines.Restart host ≡ line = cc in
+    let one = only_host_some rest host a in
+    subst (λ (l : Line). Spells (codes "restart" ∷ rest) l) same
+    (one.0, ap (λ (ws : List (List ℕ)). codes "restart" ∷ ws) one.1, one.2)
 
 -- the first word
 spelling : Verb → List ℕ
@@ -185,25 +296,39 @@ spelling verbs.Deliver = codes "deliver"
 spelling verbs.Tick = codes "tick"
 spelling verbs.Show = codes "show"
 spelling verbs.Inject = codes "inject"
+spelling (verbs.Change change) = change_word change
+spelling verbs.Crash = codes "crash"
+spelling verbs.Restart = codes "restart"
 
-verb_case : (b : Bool) (first text : List ℕ) (here found : Verb) (others : Option Verb) → bytes_eq first text ≡ b → spelling here ≡ text
-    → (others ≡ Some found → first ≡ spelling found) → cond b (Some here) others ≡ Some found → first ≡ spelling found
-verb_case true first text here found others test is_text more e =
-    let same : here ≡ found = cc in
-    same_text first text test ∙ sym is_text ∙ ap spelling same
-verb_case false first text here found others test is_text more e = more e
+change_named : (word : List ℕ) (change : MemberChange) → change_of word ≡ Some change → word ≡ change_word change
+change_named word change =
+    text_case (λ w. w) change_word (bytes_eq word (codes "add")) word (codes "add") changes.Add change _ refl refl
+    (text_case (λ w. w) change_word (bytes_eq word (codes "remove")) word (codes "remove") changes.Remove change _ refl refl
+    (text_case (λ w. w) change_word (bytes_eq word (codes "primary")) word (codes "primary") changes.Primary change _ refl refl
+    (text_case (λ w. w) change_word (bytes_eq word (codes "report")) word (codes "report") changes.Report change None refl refl (λ e. cc))))
+
+change_verb : (first : List ℕ) (change : Option MemberChange) (found : Verb) → change_of first ≡ change
+    → option_map (λ c. verbs.Change c) change ≡ Some found → first ≡ spelling found
+unfolding spelling
+change_verb first None found a e = cc
+change_verb first (Some change) found a e =
+    let same : verbs.Change change ≡ found = cc in
+    change_named first change a ∙ ap spelling same
 
 verb_spelled : (first : List ℕ) (found : Verb) → verb first ≡ Some found → first ≡ spelling found
 unfolding spelling
 verb_spelled first found =
-    verb_case (bytes_eq first (codes "hosts")) first (codes "hosts") verbs.Hosts found _ refl refl
-    (verb_case (bytes_eq first (codes "group")) first (codes "group") verbs.Group found _ refl refl
-    (verb_case (bytes_eq first (codes "client")) first (codes "client") verbs.Client found _ refl refl
-    (verb_case (bytes_eq first (codes "call")) first (codes "call") verbs.Call found _ refl refl
-    (verb_case (bytes_eq first (codes "deliver")) first (codes "deliver") verbs.Deliver found _ refl refl
-    (verb_case (bytes_eq first (codes "tick")) first (codes "tick") verbs.Tick found _ refl refl
-    (verb_case (bytes_eq first (codes "show")) first (codes "show") verbs.Show found _ refl refl
-    (verb_case (bytes_eq first (codes "inject")) first (codes "inject") verbs.Inject found None refl refl (λ e. cc))))))))
+    text_case (λ w. w) spelling (bytes_eq first (codes "hosts")) first (codes "hosts") verbs.Hosts found _ refl refl
+    (text_case (λ w. w) spelling (bytes_eq first (codes "group")) first (codes "group") verbs.Group found _ refl refl
+    (text_case (λ w. w) spelling (bytes_eq first (codes "client")) first (codes "client") verbs.Client found _ refl refl
+    (text_case (λ w. w) spelling (bytes_eq first (codes "call")) first (codes "call") verbs.Call found _ refl refl
+    (text_case (λ w. w) spelling (bytes_eq first (codes "deliver")) first (codes "deliver") verbs.Deliver found _ refl refl
+    (text_case (λ w. w) spelling (bytes_eq first (codes "tick")) first (codes "tick") verbs.Tick found _ refl refl
+    (text_case (λ w. w) spelling (bytes_eq first (codes "show")) first (codes "show") verbs.Show found _ refl refl
+    (text_case (λ w. w) spelling (bytes_eq first (codes "inject")) first (codes "inject") verbs.Inject found _ refl refl
+    (text_case (λ w. w) spelling (bytes_eq first (codes "crash")) first (codes "crash") verbs.Crash found _ refl refl
+    (text_case (λ w. w) spelling (bytes_eq first (codes "restart")) first (codes "restart") verbs.Restart found _ refl refl
+    (change_verb first (change_of first) found refl))))))))))
 
 verb_line_spelled : (found : Option Verb) (first : List ℕ) (rest : List (List ℕ)) (line : Line) → verb first ≡ found → line_of_verb found rest ≡ Ok line → Spells (first ∷ rest) line
 unfolding spelling
@@ -224,6 +349,12 @@ verb_line_spelled (Some verbs.Show) first rest line v e =
     subst (λ (w : List ℕ). Spells (w ∷ rest) line) (sym (verb_spelled first verbs.Show v)) (show_spelled rest line e)
 verb_line_spelled (Some verbs.Inject) first rest line v e =
     subst (λ (w : List ℕ). Spells (w ∷ rest) line) (sym (verb_spelled first verbs.Inject v)) (inject_spelled rest line e)
+verb_line_spelled (Some (verbs.Change change)) first rest line v e =
+    subst (λ (w : List ℕ). Spells (w ∷ rest) line) (sym (verb_spelled first (verbs.Change change) v)) (change_spelled change rest line e)
+verb_line_spelled (Some verbs.Crash) first rest line v e =
+    subst (λ (w : List ℕ). Spells (w ∷ rest) line) (sym (verb_spelled first verbs.Crash v)) (crash_found rest (only_host rest) line refl e)
+verb_line_spelled (Some verbs.Restart) first rest line v e =
+    subst (λ (w : List ℕ). Spells (w ∷ rest) line) (sym (verb_spelled first verbs.Restart v)) (restart_found rest (only_host rest) line refl e)
 
 as_some_line : (read : Result Line LineFault) (line : Line) → as_some read ≡ Ok (Some line) → read ≡ Ok line
 as_some_line (Ok other) line e = cc

@@ -1,7 +1,7 @@
 pub mod NameLemmas
-pub mod WordLemmas
 pub mod GrammarLemmas
 pub mod ReadingLemmas
 pub mod LineLemmas
 pub mod OptionLemmas
 pub mod ArgumentLemmas
+pub mod HostLemmas

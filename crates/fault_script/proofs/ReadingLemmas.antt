@@ -1,16 +1,24 @@
 -- What is of a form is read.
-use Rattle.std.proofs.Common.{◌≡◌, ℕ, ◌≤◌, ◌<◌, ◌^◌, ◌==◌, ◌∙◌, Bool, true, false, List, [], ◌∷◌, length, Option, Some, None, Ok, Err, arith, nat_lt, sym, ap, subst, cond, refl}
-use Rattle.std.specs.Prelude.{codes, option_and_then}
-use Rattle.std.specs.Str.Parse.{digits_value}
+use Rattle.std.proofs.Common.{◌≡◌, ℕ, ◌≤◌, ◌<◌, ◌^◌, ◌==◌, ◌∙◌, true, false, List, [], ◌∷◌, length, Option, Some, Ok, Err, arith, nat_lt, sym, ap, subst, refl}
+use Rattle.std.specs.Prelude.{codes, option_map, option_and_then}
+use Rattle.std.specs.List.{AllZip}
 use Rattle.std.proofs.lemmas.Bool.Decides.{nat_tests}
+use Rattle.ft_base.specs.declared.decisions.Stop.{Stop}
+use Rattle.ft_base.specs.declared.decisions.Stop.TheVariants as stops
+use Rattle.ft_base.specs.declared.views.Style.{Style}
+use Rattle.ft_base.specs.declared.views.Style.TheVariants as styles
 use Rattle.fault_script.specs.Words.{words, is_script_name, is_operation}
-use Rattle.fault_script.specs.Numbers.{is_number, number, capped, from_one, positive_number}
+use Rattle.fault_script.specs.Numbers.{number, capped, host_number, host_numbers, from_one, positive_number}
 use Rattle.fault_script.specs.Arguments.{octets_of}
-use Rattle.fault_script.specs.Forms.{hosts_of, is_group_form, member_of, group_line, call_line, deliver_of, tick_of, tick_line, inject_bytes, inject_at, inject_line, as_some, parse_words, parse}
-use Rattle.fault_script.specs.Grammar.{Spells, IsNumber}
+use Rattle.fault_script.specs.Forms.{hosts_of, kind_of, group_of, group_line, call_line, stop_of, deliver_of, tick_of, tick_line, inject_of, inject_line, change_at, change_line, crash_of, restart_of, as_some, parse_words, parse}
+use Rattle.fault_script.specs.Grammar.{Spells, IsNumber, kind_word, stop_words, change_word}
+use Rattle.fault_script.specs.declared.lines.KindWord.{KindWord}
+use Rattle.fault_script.specs.declared.lines.KindWord.TheVariants as kinds
+use Rattle.fault_script.specs.declared.lines.MemberChange.{MemberChange}
+use Rattle.fault_script.specs.declared.lines.MemberChange.TheVariants as changes
 use Rattle.fault_script.specs.declared.lines.Line.{Line}
 use Rattle.fault_script.specs.declared.lines.Line.TheVariants as lines
-use Rattle.fault_script.specs.declared.lines.LineFault.TheVariants.{Limit, Syntax}
+use Rattle.fault_script.specs.declared.lines.LineFault.TheVariants.{Limit}
 use Rattle.fault_script.specs.declared.lines.LimitName.TheVariants as limits
 
 positive_read : (word : List ℕ) (kept : ℕ) → IsNumber word kept → 1 ≤ kept → positive_number word ≡ Some kept
@@ -20,18 +28,43 @@ positive_read word kept is_kept from =
     let not_zero : (is_kept.0 == 0) ≡ false = grind (arith, nat_tests) in
     ap (option_and_then from_one) is_kept.1 ∙ rw not_zero (ap Some (sym is_kept.2))
 
--- a number is one of the hosts' numbers
-number_is : (b : Bool) (word : List ℕ) (value kept : ℕ) → is_number word ≡ b → cond b (Some value) None ≡ Some kept → is_number word ≡ true
-number_is true word value kept test e = test
-number_is false word value kept test e = cc
+host_read : (word : List ℕ) (kept : ℕ) → IsNumber word kept → host_number word ≡ Some kept
+host_read word kept is_kept = ap (option_map capped) is_kept.1 ∙ ap Some (sym is_kept.2)
 
-group_read : (name digits : List ℕ) (member : ℕ) → is_script_name name ≡ true → IsNumber digits member
-    → group_line (name ∷ codes "account" ∷ codes "cold" ∷ digits ∷ []) ≡ Ok (lines.Group name member)
-group_read name digits member named is_member =
-    let countable = number_is (is_number digits) digits (digits_value 10 digits) is_member.0 refl is_member.1 in
-    let form : is_group_form name (codes "account") (codes "cold") (digits ∷ []) ≡ true = rw (named, countable) refl in
-    ap (λ (b : Bool). cond b (member_of name (number digits)) (Err Syntax)) form
-    ∙ ap (member_of name) is_member.1 ∙ ap (λ (m : ℕ). Ok (lines.Group name m)) (sym is_member.2)
+members_read : (words : List (List ℕ)) (members : List ℕ) → AllZip IsNumber words members → host_numbers words ≡ Some members
+members_read [] [] all = refl
+members_read [] (member ∷ members) all = absurd all
+members_read (word ∷ words) [] all = absurd all
+members_read (word ∷ words) (member ∷ members) all =
+    ap (option_and_then (λ h. option_map (λ hs. h ∷ hs) (host_numbers words))) (host_read word member all.0)
+    ∙ ap (option_map (λ hs. member ∷ hs)) (members_read words members all.1)
+
+kind_read : (kind : KindWord) → kind_of (kind_word kind) ≡ Some kind
+kind_read kinds.Account = refl
+kind_read kinds.Store = refl
+kind_read kinds.Queue = refl
+
+group_read : (name : List ℕ) (kind : KindWord) (style : Style) (digits : List (List ℕ)) (members : List ℕ) → is_script_name name ≡ true → style ≡ styles.Cold
+    → AllZip IsNumber digits members → group_line (name ∷ kind_word kind ∷ codes "cold" ∷ digits) ≡ Ok (lines.Group name kind style members)
+group_read name kind style digits members named cold all =
+    rw named (ap (λ (k : Option KindWord). group_of name k (Some styles.Cold) (host_numbers digits)) (kind_read kind)
+    ∙ ap (group_of name (Some kind) (Some styles.Cold)) (members_read digits members all)
+    ∙ ap (λ (s : Style). Ok (lines.Group name kind s members)) (sym cold))
+
+stop_read : (stop : Stop) → stop_of (stop_words stop) ≡ Some stop
+stop_read stops.Never = refl
+stop_read stops.AfterAppend = refl
+stop_read stops.AfterExecute = refl
+
+change_read : (change : MemberChange) (group digits : List ℕ) (host : ℕ) → is_script_name group ≡ true → IsNumber digits host
+    → change_line change (group ∷ digits ∷ []) ≡ Ok (lines.Change change group host)
+change_read change group digits host named is_host = ap (change_at change group) (host_read digits host is_host) ∙ rw named refl
+
+change_begins : (change : MemberChange) (rest : List (List ℕ)) → parse_words (change_word change ∷ rest) ≡ as_some (change_line change rest)
+change_begins changes.Add rest = refl
+change_begins changes.Remove rest = refl
+change_begins changes.Primary rest = refl
+change_begins changes.Report rest = refl
 
 call_read : (client group op : List ℕ) (rest : List (List ℕ)) → is_script_name client ≡ true → is_script_name group ≡ true → is_operation op ≡ true
     → call_line (client ∷ group ∷ op ∷ rest) ≡ Ok (lines.Call client group op rest)
@@ -45,25 +78,25 @@ tick_read digits count is_count small =
 inject_read : (digits octets bytes : List ℕ) (host : ℕ) → IsNumber digits host → octets_of octets ≡ Some bytes
     → inject_line (digits ∷ octets ∷ []) ≡ Ok (lines.Inject host bytes)
 inject_read digits octets bytes host is_host read =
-    ap (λ (n : Option ℕ). inject_at n (octets_of octets)) is_host.1
-    ∙ ap (inject_bytes is_host.0) read ∙ ap (λ (h : ℕ). Ok (lines.Inject h bytes)) (sym is_host.2)
+    ap (λ (n : Option ℕ). inject_of n (octets_of octets)) (host_read digits host is_host) ∙ ap (inject_of (Some host)) read
 
 -- what is of a form is read
 pub spelled_is_read : (ws : List (List ℕ)) (line : Line) → Spells ws line → parse_words ws ≡ Ok (Some line)
 spelled_is_read ws (lines.Hosts count) s =
     subst (λ (w : List (List ℕ)). parse_words w ≡ Ok (Some (lines.Hosts count))) (sym s.1)
     (ap (λ (n : Option ℕ). as_some (hosts_of n)) (positive_read s.0 count s.2 s.3))
-spelled_is_read ws (lines.Group name member) s =
-    subst (λ (w : List (List ℕ)). parse_words w ≡ Ok (Some (lines.Group name member))) (sym s.1)
-    (ap as_some (group_read name s.0 member s.2 s.3))
+spelled_is_read ws (lines.Group name kind style members) s =
+    subst (λ (w : List (List ℕ)). parse_words w ≡ Ok (Some (lines.Group name kind style members))) (sym s.1)
+    (ap as_some (group_read name kind style s.0 members s.2 s.3 s.4))
 spelled_is_read ws (lines.Client name) s =
     subst (λ (w : List (List ℕ)). parse_words w ≡ Ok (Some (lines.Client name))) (sym s.0) (rw s.1 refl)
 spelled_is_read ws (lines.Call client group op rest) s =
     subst (λ (w : List (List ℕ)). parse_words w ≡ Ok (Some (lines.Call client group op rest))) (sym s.0)
     (ap as_some (call_read client group op rest s.1 s.2 s.3))
-spelled_is_read ws (lines.Deliver message) s =
-    subst (λ (w : List (List ℕ)). parse_words w ≡ Ok (Some (lines.Deliver message))) (sym s.1)
-    (ap (λ (n : Option ℕ). as_some (deliver_of n)) (positive_read s.0 message s.2 s.3))
+spelled_is_read ws (lines.Deliver message stop) s =
+    subst (λ (w : List (List ℕ)). parse_words w ≡ Ok (Some (lines.Deliver message stop))) (sym s.1)
+    (ap (λ (n : Option ℕ). as_some (deliver_of n (stop_of (stop_words stop)))) (positive_read s.0 message s.2 s.3)
+    ∙ ap (λ (t : Option Stop). as_some (deliver_of (Some message) t)) (stop_read stop))
 spelled_is_read ws (lines.Tick count) s =
     subst (λ (w : List (List ℕ)). parse_words w ≡ Ok (Some (lines.Tick count))) (sym s.1) (ap as_some (tick_read s.0 count s.2 s.3))
 spelled_is_read ws (lines.Show name) s =
@@ -71,6 +104,15 @@ spelled_is_read ws (lines.Show name) s =
 spelled_is_read ws (lines.Inject host bytes) s =
     subst (λ (w : List (List ℕ)). parse_words w ≡ Ok (Some (lines.Inject host bytes))) (sym s.2)
     (ap as_some (inject_read s.0 s.1 bytes host s.3 s.4))
+spelled_is_read ws (lines.Change change group host) s =
+    subst (λ (w : List (List ℕ)). parse_words w ≡ Ok (Some (lines.Change change group host))) (sym s.1)
+    (change_begins change (group ∷ s.0 ∷ []) ∙ ap as_some (change_read change group s.0 host s.2 s.3))
+spelled_is_read ws (lines.Crash host) s =
+    subst (λ (w : List (List ℕ)). parse_words w ≡ Ok (Some (lines.Crash host))) (sym s.1)
+    (ap (λ (n : Option ℕ). as_some (crash_of n)) (host_read s.0 host s.2))
+spelled_is_read ws (lines.Restart host) s =
+    subst (λ (w : List (List ℕ)). parse_words w ≡ Ok (Some (lines.Restart host))) (sym s.1)
+    (ap (λ (n : Option ℕ). as_some (restart_of n)) (host_read s.0 host s.2))
 
 -- a line that is too long is refused, whatever stands in it
 pub parse-long : (text : List ℕ) → 4096 < length text → parse text ≡ Err (Limit limits.Line)

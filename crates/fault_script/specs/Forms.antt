@@ -1,11 +1,19 @@
 -- What a script line reads as: its event, nothing, or the first of the refusals `limit line`, `later`
 -- and `syntax` that applies.
-use Rattle.std.specs.Prelude.{ℕ, ◌^◌, ◌&&◌, ◌||◌, Bool, nat_lt, if◌then◌else◌, List, [], ◌∷◌, length, codes, Option, Some, None, is_some, option_and_then, Result, Ok, Err}
-use Rattle.std.specs.List.{list_all, list_any}
+use Rattle.std.specs.Prelude.{ℕ, ◌^◌, ◌&&◌, Bool, nat_lt, if◌then◌else◌, List, [], ◌∷◌, length, codes, Option, Some, None, option_map, option_and_then, Result, Ok, Err}
+use Rattle.std.specs.List.{list_any}
 use Rattle.std.specs.Str.{bytes_eq}
 use Rattle.fault_script.specs.Words.{words, is_comment, is_script_name, is_operation, only}
-use Rattle.fault_script.specs.Numbers.{is_number, number, capped, positive_number}
+use Rattle.fault_script.specs.Numbers.{number, host_number, host_numbers, positive_number}
 use Rattle.fault_script.specs.Arguments.{octets_of}
+use Rattle.ft_base.specs.declared.decisions.Stop.{Stop}
+use Rattle.ft_base.specs.declared.decisions.Stop.TheVariants as stops
+use Rattle.ft_base.specs.declared.views.Style.{Style}
+use Rattle.ft_base.specs.declared.views.Style.TheVariants as styles
+use Rattle.fault_script.specs.declared.lines.KindWord.{KindWord}
+use Rattle.fault_script.specs.declared.lines.KindWord.TheVariants as kinds
+use Rattle.fault_script.specs.declared.lines.MemberChange.{MemberChange}
+use Rattle.fault_script.specs.declared.lines.MemberChange.TheVariants as changes
 use Rattle.fault_script.specs.declared.lines.Line.{Line}
 use Rattle.fault_script.specs.declared.lines.Line.TheVariants as lines
 use Rattle.fault_script.specs.declared.lines.LimitName.TheVariants as limits
@@ -17,15 +25,23 @@ use Rattle.fault_script.specs.declared.verbs.Verb.TheVariants as verbs
 -- the first words of lines that are not built yet
 abbrev pub unbuilt : List (List ℕ)
 unbuilt =
-    codes "create" ∷ codes "set" ∷ codes "unset" ∷ codes "get" ∷ codes "add" ∷ codes "grow"
-    ∷ codes "remove" ∷ codes "primary" ∷ codes "locations" ∷ codes "id" ∷ codes "ref" ∷ codes "member"
-    ∷ codes "delete" ∷ codes "bind" ∷ codes "timeout" ∷ codes "crash" ∷ codes "restart" ∷ codes "report"
+    codes "create" ∷ codes "set" ∷ codes "unset" ∷ codes "get" ∷ codes "grow" ∷ codes "locations"
+    ∷ codes "id" ∷ codes "ref" ∷ codes "member" ∷ codes "delete" ∷ codes "bind" ∷ codes "timeout"
     ∷ codes "poll" ∷ codes "sweep" ∷ codes "subscribe" ∷ codes "unsubscribe" ∷ codes "pull"
     ∷ codes "checkpoint" ∷ codes "update" ∷ codes "logfail" ∷ []
 
 -- a line with this first word is `later`
 abbrev pub is_unbuilt : List ℕ → Bool
 is_unbuilt first = list_any (bytes_eq first) unbuilt
+
+-- the first words of lines that change a group's members
+abbrev pub change_of : List ℕ → Option MemberChange
+change_of first =
+    if bytes_eq first (codes "add") then Some changes.Add
+    else (if bytes_eq first (codes "remove") then Some changes.Remove
+    else (if bytes_eq first (codes "primary") then Some changes.Primary
+    else (if bytes_eq first (codes "report") then Some changes.Report
+    else None)))
 
 -- the first words of lines that are built
 abbrev pub verb : List ℕ → Option Verb
@@ -38,7 +54,13 @@ verb first =
     else (if bytes_eq first (codes "tick") then Some verbs.Tick
     else (if bytes_eq first (codes "show") then Some verbs.Show
     else (if bytes_eq first (codes "inject") then Some verbs.Inject
-    else None)))))))
+    else (if bytes_eq first (codes "crash") then Some verbs.Crash
+    else (if bytes_eq first (codes "restart") then Some verbs.Restart
+    else option_map (λ change. verbs.Change change) (change_of first))))))))))
+
+-- the one host that words name by its number
+abbrev pub only_host : List (List ℕ) → Option ℕ
+only_host words = option_and_then host_number (only words)
 
 -- a count of hosts, from 1
 abbrev pub hosts_of : Option ℕ → Result Line LineFault
@@ -50,27 +72,33 @@ abbrev pub hosts_line : List (List ℕ) → Result Line LineFault
 hosts_line rest = hosts_of (option_and_then positive_number (only rest))
 
 -- the kinds of servants
-abbrev pub is_kind : List ℕ → Bool
-is_kind word = bytes_eq word (codes "account") || bytes_eq word (codes "store") || bytes_eq word (codes "queue")
+abbrev pub kind_of : List ℕ → Option KindWord
+kind_of word =
+    if bytes_eq word (codes "account") then Some kinds.Account
+    else (if bytes_eq word (codes "store") then Some kinds.Store
+    else (if bytes_eq word (codes "queue") then Some kinds.Queue
+    else None))
 
 -- the styles of replication
-abbrev pub is_style : List ℕ → Bool
-is_style word = bytes_eq word (codes "cold") || bytes_eq word (codes "warm") || bytes_eq word (codes "active")
+abbrev pub style_of : List ℕ → Option Style
+style_of word =
+    if bytes_eq word (codes "cold") then Some styles.Cold
+    else (if bytes_eq word (codes "warm") then Some styles.Warm
+    else (if bytes_eq word (codes "active") then Some styles.Active
+    else None))
 
--- the words behind `group` are of its form
-abbrev pub is_group_form : List ℕ → List ℕ → List ℕ → List (List ℕ) → Bool
-is_group_form name kind style hosts = is_script_name name && is_kind kind && is_style style && list_all is_number hosts
+-- of all groups only a cold one is built
+abbrev pub built_group : List ℕ → KindWord → Style → List ℕ → Result Line LineFault
+built_group name kind styles.Cold members = Ok (lines.Group name kind styles.Cold members)
+built_group name kind styles.Warm members = Err Later
+built_group name kind styles.Active members = Err Later
 
--- a group with one member is built
-abbrev pub member_of : List ℕ → Option ℕ → Result Line LineFault
-member_of name None = Err Later
-member_of name (Some host) = Ok (lines.Group name (capped host))
-
--- of all groups only a cold account with one member is built
-abbrev pub built_group : List ℕ → List ℕ → List ℕ → List (List ℕ) → Result Line LineFault
-built_group name kind style hosts =
-    if bytes_eq kind (codes "account") && bytes_eq style (codes "cold")
-    then member_of name (option_and_then number (only hosts)) else Err Later
+-- a group of this kind and style with these members, if words name them all
+abbrev pub group_of : List ℕ → Option KindWord → Option Style → Option (List ℕ) → Result Line LineFault
+group_of name None style members = Err Syntax
+group_of name (Some kind) None members = Err Syntax
+group_of name (Some kind) (Some style) None = Err Syntax
+group_of name (Some kind) (Some style) (Some members) = built_group name kind style members
 
 -- `group G KIND STYLE H..`
 abbrev pub group_line : List (List ℕ) → Result Line LineFault
@@ -78,7 +106,7 @@ group_line [] = Err Syntax
 group_line (name ∷ []) = Err Syntax
 group_line (name ∷ kind ∷ []) = Err Syntax
 group_line (name ∷ kind ∷ style ∷ hosts) =
-    if is_group_form name kind style hosts then built_group name kind style hosts else Err Syntax
+    if is_script_name name then group_of name (kind_of kind) (style_of style) (host_numbers hosts) else Err Syntax
 
 -- a client by its name
 abbrev pub client_of : Option (List ℕ) → Result Line LineFault
@@ -97,23 +125,28 @@ call_line (client ∷ group ∷ []) = Err Syntax
 call_line (client ∷ group ∷ op ∷ rest) =
     if is_script_name client && is_script_name group && is_operation op then Ok (lines.Call client group op rest) else Err Syntax
 
--- the stops of a delivery, which are not built
-abbrev pub is_stop : List ℕ → List ℕ → Bool
-is_stop crash stop = bytes_eq crash (codes "crash") && (bytes_eq stop (codes "append") || bytes_eq stop (codes "execute"))
+-- where a host crashes in a delivery
+abbrev pub stop_named : List ℕ → Option Stop
+stop_named word =
+    if bytes_eq word (codes "append") then Some stops.AfterAppend
+    else (if bytes_eq word (codes "execute") then Some stops.AfterExecute
+    else None)
 
--- a message by its number
-abbrev pub deliver_of : Option ℕ → Result Line LineFault
-deliver_of None = Err Syntax
-deliver_of (Some message) = Ok (lines.Deliver message)
+-- nothing, or `crash append` or `crash execute`
+abbrev pub stop_of : List (List ℕ) → Option Stop
+stop_of [] = Some stops.Never
+stop_of (crash ∷ rest) = if bytes_eq crash (codes "crash") then option_and_then stop_named (only rest) else None
 
--- `deliver K`; `deliver K crash append` and `deliver K crash execute` are not built
+-- a message by its number, and a stop
+abbrev pub deliver_of : Option ℕ → Option Stop → Result Line LineFault
+deliver_of None stop = Err Syntax
+deliver_of (Some message) None = Err Syntax
+deliver_of (Some message) (Some stop) = Ok (lines.Deliver message stop)
+
+-- `deliver K`, `deliver K crash append` or `deliver K crash execute`
 abbrev pub deliver_line : List (List ℕ) → Result Line LineFault
 deliver_line [] = Err Syntax
-deliver_line (number ∷ []) = deliver_of (positive_number number)
-deliver_line (number ∷ crash ∷ []) = Err Syntax
-deliver_line (number ∷ crash ∷ stop ∷ []) =
-    if is_some (positive_number number) && is_stop crash stop then Err Later else Err Syntax
-deliver_line (number ∷ crash ∷ stop ∷ more ∷ rest) = Err Syntax
+deliver_line (number ∷ rest) = deliver_of (positive_number number) (stop_of rest)
 
 -- a count of ticks, of 32 bits
 abbrev pub tick_of : Option ℕ → Result Line LineFault
@@ -133,20 +166,44 @@ show_of (Some name) = if is_script_name name then Ok (lines.Show name) else Err 
 abbrev pub show_line : List (List ℕ) → Result Line LineFault
 show_line rest = show_of (only rest)
 
--- the octets of a link
-abbrev pub inject_bytes : ℕ → Option (List ℕ) → Result Line LineFault
-inject_bytes host None = Err Syntax
-inject_bytes host (Some bytes) = Ok (lines.Inject (capped host) bytes)
-
 -- the host and the octets of a link
-abbrev pub inject_at : Option ℕ → Option (List ℕ) → Result Line LineFault
-inject_at None bytes = Err Syntax
-inject_at (Some host) bytes = inject_bytes host bytes
+abbrev pub inject_of : Option ℕ → Option (List ℕ) → Result Line LineFault
+inject_of None bytes = Err Syntax
+inject_of (Some host) None = Err Syntax
+inject_of (Some host) (Some bytes) = Ok (lines.Inject host bytes)
 
 -- `inject H HEX`
 abbrev pub inject_line : List (List ℕ) → Result Line LineFault
 inject_line [] = Err Syntax
-inject_line (host ∷ rest) = inject_at (number host) (option_and_then octets_of (only rest))
+inject_line (host ∷ rest) = inject_of (host_number host) (option_and_then octets_of (only rest))
+
+-- a group by its name, and a host by its number
+abbrev pub change_at : MemberChange → List ℕ → Option ℕ → Result Line LineFault
+change_at change group None = Err Syntax
+change_at change group (Some host) = if is_script_name group then Ok (lines.Change change group host) else Err Syntax
+
+-- `add G H`, `remove G H`, `primary G H`, `report G H`
+abbrev pub change_line : MemberChange → List (List ℕ) → Result Line LineFault
+change_line change [] = Err Syntax
+change_line change (group ∷ rest) = change_at change group (only_host rest)
+
+-- a host that goes down
+abbrev pub crash_of : Option ℕ → Result Line LineFault
+crash_of None = Err Syntax
+crash_of (Some host) = Ok (lines.Crash host)
+
+-- `crash H`
+abbrev pub crash_line : List (List ℕ) → Result Line LineFault
+crash_line rest = crash_of (only_host rest)
+
+-- a host that is up again
+abbrev pub restart_of : Option ℕ → Result Line LineFault
+restart_of None = Err Syntax
+restart_of (Some host) = Ok (lines.Restart host)
+
+-- `restart H`
+abbrev pub restart_line : List (List ℕ) → Result Line LineFault
+restart_line rest = restart_of (only_host rest)
 
 -- the line of each first word that is built
 abbrev pub line_of_verb : Option Verb → List (List ℕ) → Result Line LineFault
@@ -159,6 +216,9 @@ line_of_verb (Some verbs.Deliver) rest = deliver_line rest
 line_of_verb (Some verbs.Tick) rest = tick_line rest
 line_of_verb (Some verbs.Show) rest = show_line rest
 line_of_verb (Some verbs.Inject) rest = inject_line rest
+line_of_verb (Some (verbs.Change change)) rest = change_line change rest
+line_of_verb (Some verbs.Crash) rest = crash_line rest
+line_of_verb (Some verbs.Restart) rest = restart_line rest
 
 -- the line of a first word and the words behind it
 abbrev pub line_of : List ℕ → List (List ℕ) → Result Line LineFault

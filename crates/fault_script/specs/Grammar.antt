@@ -1,31 +1,63 @@
 -- The table of script lines: which words spell which line, one row for each line.
 use Rattle.std.specs.Prelude.{◌≡◌, ℕ, ◌<◌, ◌≤◌, ◌^◌, true, List, [], ◌∷◌, codes, Some}
+use Rattle.std.specs.List.{AllZip}
+use Rattle.ft_base.specs.declared.decisions.Stop.{Stop}
+use Rattle.ft_base.specs.declared.decisions.Stop.TheVariants.{Never, AfterAppend, AfterExecute}
+use Rattle.ft_base.specs.declared.views.Style.TheVariants.{Cold}
 use Rattle.fault_script.specs.Words.{is_script_name, is_operation}
 use Rattle.fault_script.specs.Numbers.{number, capped}
 use Rattle.fault_script.specs.Arguments.{octets_of}
+use Rattle.fault_script.specs.declared.lines.KindWord.{KindWord}
+use Rattle.fault_script.specs.declared.lines.KindWord.TheVariants.{Account, Store, Queue}
+use Rattle.fault_script.specs.declared.lines.MemberChange.{MemberChange}
+use Rattle.fault_script.specs.declared.lines.MemberChange.TheVariants.{Add, Remove, Primary, Report}
 use Rattle.fault_script.specs.declared.lines.Line.{Line}
-use Rattle.fault_script.specs.declared.lines.Line.TheVariants.{Hosts, Group, Client, Call, Deliver, Tick, Show, Inject}
+use Rattle.fault_script.specs.declared.lines.Line.TheVariants.{Hosts, Group, Client, Call, Deliver, Tick, Show, Inject, Change, Crash, Restart}
 
 -- a word is a number, which no more than 64 bits keep
 abbrev pub IsNumber : List ℕ → ℕ → Type 0
 IsNumber word kept = (value : ℕ) × (number word ≡ Some value) × (kept ≡ capped value)
 
+-- the word of a kind
+abbrev pub kind_word : KindWord → List ℕ
+kind_word Account = codes "account"
+kind_word Store = codes "store"
+kind_word Queue = codes "queue"
+
+-- the words of a stop
+abbrev pub stop_words : Stop → List (List ℕ)
+stop_words Never = []
+stop_words AfterAppend = codes "crash" ∷ codes "append" ∷ []
+stop_words AfterExecute = codes "crash" ∷ codes "execute" ∷ []
+
+-- the first word of a change
+abbrev pub change_word : MemberChange → List ℕ
+change_word Add = codes "add"
+change_word Remove = codes "remove"
+change_word Primary = codes "primary"
+change_word Report = codes "report"
+
 -- the words of each line
 abbrev pub Spells : List (List ℕ) → Line → Type 0
 Spells words (Hosts count) =
     (digits : List ℕ) × (words ≡ codes "hosts" ∷ digits ∷ []) × IsNumber digits count × (1 ≤ count)
-Spells words (Group name member) =
-    (digits : List ℕ) × (words ≡ codes "group" ∷ name ∷ codes "account" ∷ codes "cold" ∷ digits ∷ [])
-    × (is_script_name name ≡ true) × IsNumber digits member
+Spells words (Group name kind style members) =
+    (digits : List (List ℕ)) × (words ≡ codes "group" ∷ name ∷ kind_word kind ∷ codes "cold" ∷ digits)
+    × (is_script_name name ≡ true) × (style ≡ Cold) × AllZip IsNumber digits members
 Spells words (Client name) = (words ≡ codes "client" ∷ name ∷ []) × (is_script_name name ≡ true)
 Spells words (Call client group op rest) =
     (words ≡ codes "call" ∷ client ∷ group ∷ op ∷ rest)
     × (is_script_name client ≡ true) × (is_script_name group ≡ true) × (is_operation op ≡ true)
-Spells words (Deliver message) =
-    (digits : List ℕ) × (words ≡ codes "deliver" ∷ digits ∷ []) × IsNumber digits message × (1 ≤ message)
+Spells words (Deliver message stop) =
+    (digits : List ℕ) × (words ≡ codes "deliver" ∷ digits ∷ stop_words stop) × IsNumber digits message × (1 ≤ message)
 Spells words (Tick count) =
     (digits : List ℕ) × (words ≡ codes "tick" ∷ digits ∷ []) × (number digits ≡ Some count) × (count < 2 ^ 32)
 Spells words (Show name) = (words ≡ codes "show" ∷ name ∷ []) × (is_script_name name ≡ true)
 Spells words (Inject host bytes) =
     (digits : List ℕ) × (octets : List ℕ) × (words ≡ codes "inject" ∷ digits ∷ octets ∷ [])
     × IsNumber digits host × (octets_of octets ≡ Some bytes)
+Spells words (Change change group host) =
+    (digits : List ℕ) × (words ≡ change_word change ∷ group ∷ digits ∷ [])
+    × (is_script_name group ≡ true) × IsNumber digits host
+Spells words (Crash host) = (digits : List ℕ) × (words ≡ codes "crash" ∷ digits ∷ []) × IsNumber digits host
+Spells words (Restart host) = (digits : List ℕ) × (words ≡ codes "restart" ∷ digits ∷ []) × IsNumber digits host

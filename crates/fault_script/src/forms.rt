@@ -1,17 +1,17 @@
-ghost use Rattle.std.specs.Prelude.{◌≡◌, ℕ, List, true, option_map, option_and_then, Ok};
-ghost use Rattle.std.specs.List.{list_all};
+ghost use Rattle.std.specs.Prelude.{◌≡◌, ℕ, List, true, Ok};
 ghost use Rattle.fault_script.specs.Words.{texts, only, is_script_name, is_operation};
-ghost use Rattle.fault_script.specs.Numbers.{is_number, number, capped};
+ghost use Rattle.fault_script.specs.Numbers.{host_numbers};
 ghost use Rattle.fault_script.specs.Faults.{IsAnswer};
-ghost use Rattle.fault_script.specs.Forms.{is_kind, is_style, is_stop, hosts_line, is_group_form, built_group, group_line, client_line, call_line, deliver_line, tick_line, show_line, inject_line};
+ghost use Rattle.fault_script.specs.Arguments.{IsFound};
+ghost use Rattle.fault_script.specs.Forms.{only_host, hosts_line, kind_of, style_of, built_group, group_of, group_line, client_line, call_line, stop_named, stop_of, deliver_line, tick_line, show_line, inject_line, change_line, crash_line, restart_line};
 
 use crate::arguments::read_octets;
-use crate::lines::{Line, LineFault, Words};
+use crate::lines::{HostNumbers, KindWord, Line, LineFault, MemberChange, Words};
 use crate::names::{is_operation, read_name, read_operation};
-use crate::numerals::{cap, read_positive};
+use crate::numerals::{read_host, read_positive};
 use crate::splitting::{is_script_name, only, split_first};
-use decimal_numbers::{is_number, read_number};
-use ft_base::{Bytes, NoMemory};
+use decimal_numbers::read_number;
+use ft_base::{Bytes, NoMemory, Stop, Style};
 use std::alloc::Global;
 
 /// `hosts N`, from the words behind the first.
@@ -66,40 +66,74 @@ pub(crate) fn read_tick(words: &[&[u8]]) -> Result<Line, LineFault>
     }
 }
 
-fn is_kind(word: &[u8]) -> bool
-    ensures { result ≡ is_kind word.now }
+fn find_kind(word: &[u8]) -> Option<KindWord>
+    ensures { result ≡ kind_of word.now }
 {
-    word == b"account".as_slice() || word == b"store".as_slice() || word == b"queue".as_slice()
+    if word == b"account".as_slice() {
+        Some(KindWord::Account)
+    } else if word == b"store".as_slice() {
+        Some(KindWord::Store)
+    } else if word == b"queue".as_slice() {
+        Some(KindWord::Queue)
+    } else {
+        None
+    }
 }
 
-fn is_style(word: &[u8]) -> bool
-    ensures { result ≡ is_style word.now }
+fn find_style(word: &[u8]) -> Option<Style>
+    ensures { result ≡ style_of word.now }
 {
-    word == b"cold".as_slice() || word == b"warm".as_slice() || word == b"active".as_slice()
+    if word == b"cold".as_slice() {
+        Some(Style::Cold)
+    } else if word == b"warm".as_slice() {
+        Some(Style::Warm)
+    } else if word == b"active".as_slice() {
+        Some(Style::Active)
+    } else {
+        None
+    }
 }
 
-fn all_numbers(words: &[&[u8]]) -> bool
-    ensures { result ≡ list_all (λ word. is_number word.now) words.now }
+fn read_members(alloc: Global, hosts: &[&[u8]]) -> Result<HostNumbers, LineFault>
+    ensures { IsFound (λ members. members) result (host_numbers (texts hosts.now)) }
 {
-    words.iter().all(|word| is_number(*word))
-}
-
-#[tactic(auto, using(crate::proofs::WordLemmas::list_all_texts))]
-fn is_group_form(name: &[u8], kind: &[u8], style: &[u8], hosts: &[&[u8]]) -> bool
-    ensures { result ≡ is_group_form name.now kind.now style.now (texts hosts.now) }
-{
-    is_script_name(name) && is_kind(kind) && is_style(style) && all_numbers(hosts)
-}
-
-fn read_member(hosts: &[&[u8]]) -> Option<u64>
-    ensures { result ≡ option_map capped (option_and_then number (only (texts hosts.now))) }
-{
-    let host = only(hosts)?;
-    let host = read_number(host)?;
-    Some(cap(host))
+    let mut numbers = Vec::new(alloc);
+    for word in hosts {
+        let Some(host) = read_host(*word) else {
+            return Err(LineFault::Syntax);
+        };
+        if numbers.push(host).is_err() {
+            return Err(LineFault::NoMemory);
+        }
+    }
+    Ok(HostNumbers::from_vec(numbers))
 }
 
 fn build_group(
+    alloc: Global,
+    name: &[u8],
+    kind: KindWord,
+    style: Style,
+    members: HostNumbers,
+) -> Result<Line, LineFault>
+    requires { is_script_name name.now ≡ true }
+    ensures { IsAnswer result (built_group name.now kind style members) }
+{
+    match style {
+        Style::Cold => match read_name(alloc, name) {
+            Ok(name) => Ok(Line::Group {
+                name,
+                kind,
+                style,
+                members,
+            }),
+            Err(fault) => Err(fault),
+        },
+        Style::Warm | Style::Active => Err(LineFault::Later),
+    }
+}
+
+fn spell_group(
     alloc: Global,
     name: &[u8],
     kind: &[u8],
@@ -107,16 +141,16 @@ fn build_group(
     hosts: &[&[u8]],
 ) -> Result<Line, LineFault>
     requires { is_script_name name.now ≡ true }
-    ensures { IsAnswer result (built_group name.now kind.now style.now (texts hosts.now)) }
+    ensures { IsAnswer result (group_of name.now (kind_of kind.now) (style_of style.now) (host_numbers (texts hosts.now))) }
 {
-    if kind != b"account".as_slice() || style != b"cold".as_slice() {
-        return Err(LineFault::Later);
-    }
-    let Some(member) = read_member(hosts) else {
-        return Err(LineFault::Later);
+    let Some(kind) = find_kind(kind) else {
+        return Err(LineFault::Syntax);
     };
-    match read_name(alloc, name) {
-        Ok(name) => Ok(Line::Group { name, member }),
+    let Some(style) = find_style(style) else {
+        return Err(LineFault::Syntax);
+    };
+    match read_members(alloc, hosts) {
+        Ok(members) => build_group(alloc, name, kind, style, members),
         Err(fault) => Err(fault),
     }
 }
@@ -134,8 +168,8 @@ pub(crate) fn read_group(alloc: Global, words: &[&[u8]]) -> Result<Line, LineFau
     let Some((style, hosts)) = split_first(rest) else {
         return Err(LineFault::Syntax);
     };
-    if is_group_form(name, kind, style, hosts) {
-        build_group(alloc, name, kind, style, hosts)
+    if is_script_name(name) {
+        spell_group(alloc, name, kind, style, hosts)
     } else {
         Err(LineFault::Syntax)
     }
@@ -187,32 +221,44 @@ pub(crate) fn read_call(alloc: Global, words: &[&[u8]]) -> Result<Line, LineFaul
     }
 }
 
-fn is_stop(crash: &[u8], stop: &[u8]) -> bool
-    ensures { result ≡ is_stop crash.now stop.now }
+fn find_stop(word: &[u8]) -> Option<Stop>
+    ensures { result ≡ stop_named word.now }
 {
-    crash == b"crash".as_slice() && (stop == b"append".as_slice() || stop == b"execute".as_slice())
+    if word == b"append".as_slice() {
+        Some(Stop::AfterAppend)
+    } else if word == b"execute".as_slice() {
+        Some(Stop::AfterExecute)
+    } else {
+        None
+    }
 }
 
-/// `deliver K`, and the stops that are not built yet, from the words behind the first.
+fn read_stop(words: &[&[u8]]) -> Option<Stop>
+    ensures { result ≡ stop_of (texts words.now) }
+{
+    let Some((crash, rest)) = split_first(words) else {
+        return Some(Stop::Never);
+    };
+    if crash != b"crash".as_slice() {
+        return None;
+    }
+    let stop = only(rest)?;
+    find_stop(stop)
+}
+
+/// `deliver K`, alone or with a stop, from the words behind the first.
 pub(crate) fn read_deliver(words: &[&[u8]]) -> Result<Line, LineFault>
     ensures { result ≡ deliver_line (texts words.now) }
 {
     let Some((number, rest)) = split_first(words) else {
         return Err(LineFault::Syntax);
     };
-    let Some((crash, rest)) = split_first(rest) else {
-        return match read_positive(number) {
-            Some(message) => Ok(Line::Deliver(message)),
-            None => Err(LineFault::Syntax),
-        };
-    };
-    let Some((stop, rest)) = split_first(rest) else {
+    let Some(number) = read_positive(number) else {
         return Err(LineFault::Syntax);
     };
-    if rest.is_empty() && read_positive(number).is_some() && is_stop(crash, stop) {
-        Err(LineFault::Later)
-    } else {
-        Err(LineFault::Syntax)
+    match read_stop(rest) {
+        Some(stop) => Ok(Line::Deliver { number, stop }),
+        None => Err(LineFault::Syntax),
     }
 }
 
@@ -223,7 +269,7 @@ pub(crate) fn read_inject(alloc: Global, words: &[&[u8]]) -> Result<Line, LineFa
     let Some((host, rest)) = split_first(words) else {
         return Err(LineFault::Syntax);
     };
-    let Some(host) = read_number(host) else {
+    let Some(host) = read_host(host) else {
         return Err(LineFault::Syntax);
     };
     let Some(octets) = only(rest) else {
@@ -231,8 +277,59 @@ pub(crate) fn read_inject(alloc: Global, words: &[&[u8]]) -> Result<Line, LineFa
     };
     match read_octets(alloc, octets) {
         Ok(bytes) => Ok(Line::Inject {
-            host: cap(host),
+            host,
             bytes: Bytes::from_vec(bytes),
+        }),
+        Err(fault) => Err(fault),
+    }
+}
+
+fn read_only_host(words: &[&[u8]]) -> Option<u64>
+    ensures { result ≡ only_host (texts words.now) }
+{
+    let word = only(words)?;
+    read_host(word)
+}
+
+/// `crash H`, from the words behind the first.
+pub(crate) fn read_crash(words: &[&[u8]]) -> Result<Line, LineFault>
+    ensures { result ≡ crash_line (texts words.now) }
+{
+    match read_only_host(words) {
+        Some(host) => Ok(Line::Crash(host)),
+        None => Err(LineFault::Syntax),
+    }
+}
+
+/// `restart H`, from the words behind the first.
+pub(crate) fn read_restart(words: &[&[u8]]) -> Result<Line, LineFault>
+    ensures { result ≡ restart_line (texts words.now) }
+{
+    match read_only_host(words) {
+        Some(host) => Ok(Line::Restart(host)),
+        None => Err(LineFault::Syntax),
+    }
+}
+
+/// `add G H` and its like, from the words behind the first.
+pub(crate) fn read_change(
+    alloc: Global,
+    change: MemberChange,
+    words: &[&[u8]],
+) -> Result<Line, LineFault>
+    ensures { IsAnswer result (change_line change (texts words.now)) }
+{
+    let Some((group, rest)) = split_first(words) else {
+        return Err(LineFault::Syntax);
+    };
+    let Some(host) = read_only_host(rest) else {
+        return Err(LineFault::Syntax);
+    };
+    match read_name(alloc, group) {
+        Ok(group) => Ok(Line::Change {
+            change,
+            group,
+            host,
         }),
         Err(fault) => Err(fault),
     }

@@ -12,7 +12,7 @@ mod splitting;
 mod verbs;
 
 pub use arguments::{CallWords, call_words};
-pub use lines::{LimitName, Line, LineFault, Words};
+pub use lines::{HostNumbers, KindWord, LimitName, Line, LineFault, MemberChange, Words};
 pub use reading::read_line;
 
 #[cfg(test)]

@@ -1,6 +1,6 @@
 ghost use Rattle.std.specs.Prelude.{◌≡◌, ℕ, ◌++◌, List, codes, IfOk};
 
-use ft_base::{Bytes, Name, NoMemory};
+use ft_base::{Bytes, Name, NoMemory, Stop, Style};
 use std::alloc::Global;
 use std::marker::Model;
 
@@ -16,16 +16,51 @@ impl Model for Words {
     ghost view = { λ w. w.words.items };
 }
 
+/// Hosts by their numbers, in order.
+#[derive(Debug, Drop)]
+pub struct HostNumbers {
+    numbers: Vec<u64>,
+}
+
+impl Model for HostNumbers {
+    ghost Value = { List ℕ };
+
+    ghost view = { λ h. h.numbers.items };
+}
+
+/// A kind of servant, by the word that names it.
+#[derive(Clone, Copy, Debug, PartialEq, Eq)]
+pub enum KindWord {
+    Account,
+    Store,
+    Queue,
+}
+
+/// What a line does to a group's members.
+#[derive(Clone, Copy, Debug, PartialEq, Eq)]
+pub enum MemberChange {
+    /// `add`: a host joins the members.
+    Add,
+    /// `remove`: a member leaves.
+    Remove,
+    /// `primary`: a member becomes the primary.
+    Primary,
+    /// `report`: a member is reported as faulty.
+    Report,
+}
+
 /// A line of a script. A host or a message has its number; one that 64 bits can't keep is the greatest
 /// that they can, which no host and no message has.
 #[derive(Debug, Drop)]
 pub enum Line {
     /// `hosts N`: the hosts 0 to N-1 are up.
     Hosts(u64),
-    /// `group G account cold H`: an account group of one member, cold.
+    /// `group G KIND STYLE H..`: a group of these members. Only a cold one is built.
     Group {
         name: Name,
-        member: u64,
+        kind: KindWord,
+        style: Style,
+        members: HostNumbers,
     },
     /// `client C`.
     Client(Name),
@@ -36,8 +71,12 @@ pub enum Line {
         op: Name,
         words: Words,
     },
-    /// `deliver K`: message K arrives.
-    Deliver(u64),
+    /// `deliver K`: message K arrives. Behind it `crash append` or `crash execute`: the host stops in
+    /// the middle of what it does.
+    Deliver {
+        number: u64,
+        stop: Stop,
+    },
     /// `tick N`: time goes on.
     Tick(u32),
     /// `show G`: prints the group.
@@ -47,6 +86,16 @@ pub enum Line {
         host: u64,
         bytes: Bytes,
     },
+    /// `add G H`, `remove G H`, `primary G H`, `report G H`.
+    Change {
+        change: MemberChange,
+        group: Name,
+        host: u64,
+    },
+    /// `crash H`: the host goes down.
+    Crash(u64),
+    /// `restart H`: the host is up again.
+    Restart(u64),
 }
 
 /// What there are only so many of.
@@ -124,6 +173,22 @@ impl Words {
         ensures { result.now ≡ self.now }
     {
         self.words.as_slice()
+    }
+}
+
+impl HostNumbers {
+    /// Hosts of these numbers.
+    pub fn from_vec(numbers: Vec<u64>) -> HostNumbers
+        ensures { result ≡ numbers.items }
+    {
+        HostNumbers { numbers }
+    }
+
+    /// The numbers themselves.
+    pub fn as_slice(&self) -> &[u64]
+        ensures { result.now ≡ self.now }
+    {
+        self.numbers.as_slice()
     }
 }
 

@@ -1,5 +1,5 @@
 ghost use Rattle.std.specs.Prelude.{◌≡◌};
-ghost use Rattle.fault_script.specs.Numbers.{capped, positive_number, decimal, signed_64, signed_32, unsigned_64, unsigned_32};
+ghost use Rattle.fault_script.specs.Numbers.{capped, host_number, positive_number, decimal, signed_64, signed_32, unsigned_64, unsigned_32};
 
 use decimal_numbers::read_number;
 
@@ -22,6 +22,14 @@ pub(crate) fn read_positive(word: &[u8]) -> Option<u64>
         Some(value) if value != 0 => Some(cap(value)),
         _ => None,
     }
+}
+
+/// The host whose number a word is, if it is a number.
+pub(crate) fn read_host(word: &[u8]) -> Option<u64>
+    ensures { result ≡ host_number word.now }
+{
+    let value = read_number(word)?;
+    Some(cap(value))
 }
 
 fn read_decimal(word: &[u8]) -> Option<i128>

@@ -6,7 +6,8 @@ ghost use Rattle.fault_script.specs.Grammar.{Spells};
 ghost use Rattle.fault_script.specs.declared.lines.Line.{Line};
 
 use crate::forms::{
-    read_call, read_client, read_deliver, read_group, read_hosts, read_inject, read_show, read_tick,
+    read_call, read_change, read_client, read_crash, read_deliver, read_group, read_hosts,
+    read_inject, read_restart, read_show, read_tick,
 };
 use crate::lines::{LimitName, Line, LineFault};
 use crate::splitting::{is_comment, split_first, split_words};
@@ -32,6 +33,9 @@ fn read_form(alloc: Global, first: &[u8], rest: &[&[u8]]) -> Result<Line, LineFa
         Some(Verb::Tick) => read_tick(rest),
         Some(Verb::Show) => read_show(alloc, rest),
         Some(Verb::Inject) => read_inject(alloc, rest),
+        Some(Verb::Change(change)) => read_change(alloc, change, rest),
+        Some(Verb::Crash) => read_crash(rest),
+        Some(Verb::Restart) => read_restart(rest),
     }
 }
 

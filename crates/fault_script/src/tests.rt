@@ -1,13 +1,45 @@
-use crate::{CallWords, Line, LineFault, Words, call_words, read_line};
-use ft_base::{Par, Signature};
+use crate::{
+    CallWords, HostNumbers, KindWord, Line, LineFault, MemberChange, Words, call_words, read_line,
+};
+use ft_base::{Par, Signature, Stop};
 use std::alloc::Global;
 use std::process::Abort;
 use std::test::Fail;
 
+fn kind_form(kind: KindWord) -> &'static [u8] {
+    match kind {
+        KindWord::Account => b"account",
+        KindWord::Store => b"store",
+        KindWord::Queue => b"queue",
+    }
+}
+
+fn stop_form(stop: Stop) -> &'static [u8] {
+    match stop {
+        Stop::Never => b"deliver",
+        Stop::AfterAppend => b"append",
+        Stop::AfterExecute => b"execute",
+    }
+}
+
+fn change_form(change: MemberChange) -> &'static [u8] {
+    match change {
+        MemberChange::Add => b"add",
+        MemberChange::Remove => b"remove",
+        MemberChange::Primary => b"primary",
+        MemberChange::Report => b"report",
+    }
+}
+
 fn form(line: &Line) -> &'static [u8] {
     match line {
         Line::Hosts(_) => b"hosts",
-        Line::Group { name: _, member: _ } => b"group",
+        Line::Group {
+            name: _,
+            kind,
+            style: _,
+            members: _,
+        } => kind_form(*kind),
         Line::Client(_) => b"client",
         Line::Call {
             client: _,
@@ -15,14 +47,22 @@ fn form(line: &Line) -> &'static [u8] {
             op: _,
             words: _,
         } => b"call",
-        Line::Deliver(_) => b"deliver",
+        Line::Deliver { number: _, stop } => stop_form(*stop),
         Line::Tick(_) => b"tick",
         Line::Show(_) => b"show",
         Line::Inject { host: _, bytes: _ } => b"inject",
+        Line::Change {
+            change,
+            group: _,
+            host: _,
+        } => change_form(*change),
+        Line::Crash(_) => b"crash",
+        Line::Restart(_) => b"restart",
     }
 }
 
-/// The first word of a line's form, or why the line is refused.
+/// The first word of a line's form, of a group its kind and of a stop its last word; or why the line is
+/// refused.
 fn shown(alloc: Global, line: &[u8]) -> &'static [u8] {
     match read_line(alloc, line) {
         Ok(None) => b"nothing",
@@ -32,12 +72,17 @@ fn shown(alloc: Global, line: &[u8]) -> &'static [u8] {
 }
 
 // How lines read, with a bar between each two.
-const LINES: [(&str, &str); 11] = [
+const LINES: [(&str, &str); 21] = [
     ("nothing", "| \t\r|# frob|\r #frob"),
     ("hosts", "hosts 7|hosts\t0007\r|hosts 99999999999999999999"),
     (
-        "group",
-        "group g1 account cold 0|group g account cold 99999999999999999999",
+        "account",
+        "group g1 account cold 0|group g account cold 99999999999999999999|group g account cold",
+    ),
+    ("store", "group g store cold 0 00|group g store cold 2 1 0"),
+    (
+        "queue",
+        "group g queue cold|group g queue cold 0 1 2 3 4 5 6 7 8 9 10 11 12 13 14 15 16",
     ),
     ("client", "client c-6.x_Z|client c-8.x_Z \t "),
     (
@@ -48,18 +93,25 @@ const LINES: [(&str, &str); 11] = [
         "deliver",
         "deliver 1|deliver 0002|deliver 00000000000000000001",
     ),
+    ("append", "deliver 1 crash append"),
+    ("execute", "deliver 1 crash execute"),
     ("tick", "tick 0|tick 999|tick 4294967295"),
     ("show", "show bank"),
     (
         "inject",
         "inject 0 -|inject 0 47494f50|inject 63 47494F50|inject 00000000000000000000 aF",
     ),
+    ("add", "add g 0|add\tg.x 0007"),
+    ("remove", "remove g 99999999999999999999"),
+    ("primary", "primary g 64"),
+    ("report", "report g 1"),
+    ("crash", "crash 0|crash 99999999999999999999"),
+    ("restart", "restart 1"),
     (
         "later",
         concat!(
-            "group g account cold|group g account cold 0 00|group g store cold 0|group g queue active|",
-            "group g account warm 0|deliver 1 crash append|deliver 1 crash execute|crash|crash 1|bind c1|",
-            "logfail g|set frob",
+            "group g account warm 0|group g store warm|group g queue active 1 2 3|bind c1|logfail g|",
+            "set frob|grow",
         ),
     ),
     (
@@ -67,12 +119,16 @@ const LINES: [(&str, &str); 11] = [
         concat!(
             "hosts 099999999999999999999|hosts 0|hosts|hosts 1 2|hosts -1|hosts +1|Hosts 1|",
             "group gX account cold x|group g store warm x|group 1g store cold 0|group g frob cold 0|",
-            "group g account hot 0|group g account|client _c|client c/d|client|client a b|call c0 bank|",
-            "call 0c bank deposit 700|call c0 - deposit 700|deliver 0|deliver 000000000000000000001|",
-            "deliver 0 crash append|deliver 1 crash|deliver 1 crash frob|deliver 1 crash append 2|",
+            "group g account hot 0|group g account|group g store cold 0 x|group 1g queue active|",
+            "group g queue warm 000000000000000000000|group|client _c|client c/d|client|client a b|",
+            "call c0 bank|call 0c bank deposit 700|call c0 - deposit 700|deliver 0|",
+            "deliver 000000000000000000001|deliver 0 crash append|deliver 1 crash|deliver 1 crash frob|",
+            "deliver 1 crash append 2|deliver 1 append|deliver 1 frob execute|deliver x crash append|",
             "tick 4294967296|tick|show|frob|manage 0 x|beat c g|plain 0 00|",
             "inject 000000000000000000000 00|inject 0 4|inject 0 47494f5|inject 0 4g|inject 0 0x00|",
-            "inject 0 --|inject x 00|inject -1 00|inject 0|inject|inject 0 00 00|Inject 0 00",
+            "inject 0 --|inject x 00|inject -1 00|inject 0|inject|inject 0 00 00|Inject 0 00|",
+            "add|add g|add g x|add 0 g|add _g 0|remove g 0 1|primary g -1|report g|Add g 0|crash|crash x|",
+            "crash 1 2|restart|restart -1|restart 000000000000000000000",
         ),
     ),
 ];
@@ -98,20 +154,23 @@ type Limit = (
 );
 
 // Lines, words and names at their limits.
-const LIMITS: [Limit; 17] = [
+const LIMITS: [Limit; 20] = [
     ("show g", " ", 4090, "", "show", "limit line"),
     ("#", "\r", 4095, "", "nothing", "limit line"),
     ("", " ", 4096, "", "nothing", "limit line"),
     ("", "frob ", 819, "", "syntax", "limit line"),
-    ("crash", " x", 2045, "", "later", "limit line"),
+    ("bind", " x", 2046, "", "later", "limit line"),
+    ("crash", " x", 2045, "", "syntax", "limit line"),
+    ("group g queue cold", " 0", 2039, "", "queue", "limit line"),
     ("call c g op", " w", 2042, "", "call", "limit line"),
     ("call c g op ", "w", 4084, "", "call", "limit line"),
     ("inject 0 ", "00", 2043, "", "inject", "limit line"),
     ("inject 0 0", "00", 2043, "", "syntax", "limit line"),
     ("show ", "g", 64, "", "show", "syntax"),
     ("client ", "c", 64, "", "client", "syntax"),
-    ("group ", "g", 64, " account cold 0", "group", "syntax"),
+    ("group ", "g", 64, " account cold 0", "account", "syntax"),
     ("group ", "g", 64, " store warm 0", "later", "syntax"),
+    ("report ", "g", 64, " 0", "report", "syntax"),
     ("call ", "c", 64, " g op", "call", "syntax"),
     ("call c ", "g", 64, " op", "call", "syntax"),
     ("call c g ", "=", 255, "", "call", "syntax"),
@@ -148,33 +207,70 @@ fn lines(rt: HostRuntime) -> Result<(), Fail> {
     Ok(())
 }
 
-// The number in a line, and its octets.
-const NUMBERS: [(&str, u64, &[u8]); 9] = [
-    ("hosts 0064", 64, b""),
-    ("hosts 18446744073709551615", u64::MAX, b""),
-    ("hosts 18446744073709551616", u64::MAX, b""),
-    ("group bank account cold 03", 3, b""),
-    ("inject 0 -", 0, b""),
-    ("inject 0 47494f50", 0, b"GIOP"),
-    ("inject 0063 47494F50", 63, b"GIOP"),
-    ("inject 18446744073709551615 00fF", u64::MAX, b"\0\xff"),
-    ("inject 18446744073709551616 0102", u64::MAX, b"\x01\x02"),
+// The numbers in a line, and its octets.
+const NUMBERS: [(&str, &[u64], &[u8]); 14] = [
+    ("hosts 0064", &[64], b""),
+    ("hosts 18446744073709551615", &[u64::MAX], b""),
+    ("hosts 18446744073709551616", &[u64::MAX], b""),
+    ("group bank account cold", &[], b""),
+    (
+        "group bank account cold 03 2 18446744073709551616 2",
+        &[3, 2, u64::MAX, 2],
+        b"",
+    ),
+    ("deliver 12 crash append", &[12], b""),
+    ("inject 0 -", &[0], b""),
+    ("inject 0 47494f50", &[0], b"GIOP"),
+    ("inject 0063 47494F50", &[63], b"GIOP"),
+    ("inject 18446744073709551615 00fF", &[u64::MAX], b"\0\xff"),
+    ("inject 18446744073709551616 0102", &[u64::MAX], b"\x01\x02"),
+    ("primary bank 0005", &[5], b""),
+    ("crash 18446744073709551616", &[u64::MAX], b""),
+    ("restart 000", &[0], b""),
 ];
 
-fn has(alloc: Global, text: &str, wanted: u64, octets: &[u8]) -> bool {
+fn is_one(wanted: &[u64], number: u64) -> bool {
+    wanted.len() == 1 && wanted[0] == number
+}
+
+fn has(alloc: Global, text: &str, wanted: &[u64], octets: &[u8]) -> bool {
     match read_line(alloc, text.as_bytes()) {
-        Ok(Some(Line::Hosts(number))) => number == wanted,
-        Ok(Some(Line::Group { name: _, member })) => member == wanted,
-        Ok(Some(Line::Inject { host, bytes })) => host == wanted && bytes.bytes() == octets,
+        Ok(Some(Line::Hosts(number))) => is_one(wanted, number),
+        Ok(
+            Some(
+                Line::Group {
+                    name: _,
+                    kind: _,
+                    style: _,
+                    members,
+                },
+            ),
+        ) => members.as_slice() == wanted,
+        Ok(Some(Line::Deliver { number, stop: _ })) => is_one(wanted, number),
+        Ok(Some(Line::Inject { host, bytes })) => is_one(wanted, host) && bytes.bytes() == octets,
+        Ok(
+            Some(
+                Line::Change {
+                    change: _,
+                    group: _,
+                    host,
+                },
+            ),
+        ) => is_one(wanted, host),
+        Ok(Some(Line::Crash(host))) => is_one(wanted, host),
+        Ok(Some(Line::Restart(host))) => is_one(wanted, host),
         _ => false,
     }
 }
 
 #[test]
-fn numbers(rt: HostRuntime) {
+fn numbers(rt: HostRuntime) -> Result<(), Fail> {
     for (text, wanted, octets) in NUMBERS.iter() {
         assert!(rt; has(rt.alloc(), *text, *wanted, *octets), "{text}");
     }
+    let hosts = HostNumbers::from_vec(Vec::from_slice(rt.alloc(), &[2, 0])?);
+    assert!(rt; hosts.as_slice() == [2, 0].as_slice());
+    Ok(())
 }
 
 /// What the words after `call c g op` say: the parameters, `ret`, `exp` and whether it is versioned.

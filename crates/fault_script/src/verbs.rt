@@ -1,7 +1,9 @@
 ghost use Rattle.std.specs.Prelude.{◌≡◌, ℕ, List};
 ghost use Rattle.std.specs.List.{list_any};
 ghost use Rattle.std.specs.Str.{bytes_eq};
-ghost use Rattle.fault_script.specs.Forms.{verb, is_unbuilt};
+ghost use Rattle.fault_script.specs.Forms.{change_of, verb, is_unbuilt};
+
+use crate::lines::MemberChange;
 
 /// The first words of the lines that are built.
 #[derive(Clone, Copy, Debug, PartialEq, Eq)]
@@ -14,6 +16,25 @@ pub(crate) enum Verb {
     Tick,
     Show,
     Inject,
+    Change(MemberChange),
+    Crash,
+    Restart,
+}
+
+fn find_change(first: &[u8]) -> Option<MemberChange>
+    ensures { result ≡ change_of first.now }
+{
+    if first == b"add".as_slice() {
+        Some(MemberChange::Add)
+    } else if first == b"remove".as_slice() {
+        Some(MemberChange::Remove)
+    } else if first == b"primary".as_slice() {
+        Some(MemberChange::Primary)
+    } else if first == b"report".as_slice() {
+        Some(MemberChange::Report)
+    } else {
+        None
+    }
 }
 
 /// The line that a first word begins, of those that are built.
@@ -36,20 +57,21 @@ pub(crate) fn find_verb(first: &[u8]) -> Option<Verb>
         Some(Verb::Show)
     } else if first == b"inject".as_slice() {
         Some(Verb::Inject)
+    } else if first == b"crash".as_slice() {
+        Some(Verb::Crash)
+    } else if first == b"restart".as_slice() {
+        Some(Verb::Restart)
     } else {
-        None
+        find_change(first).map(Verb::Change)
     }
 }
 
-static UNBUILT: [&[u8]; 26] = [
+static UNBUILT: [&[u8]; 20] = [
     b"create",
     b"set",
     b"unset",
     b"get",
-    b"add",
     b"grow",
-    b"remove",
-    b"primary",
     b"locations",
     b"id",
     b"ref",
@@ -57,9 +79,6 @@ static UNBUILT: [&[u8]; 26] = [
     b"delete",
     b"bind",
     b"timeout",
-    b"crash",
-    b"restart",
-    b"report",
     b"poll",
     b"sweep",
     b"subscribe",
