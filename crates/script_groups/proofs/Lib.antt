@@ -4,3 +4,4 @@ pub mod Telling
 pub mod Acts
 pub mod Lists
 pub mod Formers
+pub mod Trying

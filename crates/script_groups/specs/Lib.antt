@@ -5,3 +5,4 @@ pub mod Acting
 pub mod Showing
 pub mod References
 pub mod Laws
+pub mod Trying

@@ -6,6 +6,8 @@ mod groups;
 mod laws;
 mod references;
 mod showing;
+#[cfg(test)]
+mod tests;
 
 pub use groups::ScriptGroup;
 pub use laws::{answers_are_in_form, groups_go_on, shown_are_views};

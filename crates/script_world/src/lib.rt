@@ -5,6 +5,8 @@
 mod hosts;
 mod limits;
 mod messages;
+#[cfg(test)]
+mod tests;
 mod worlds;
 
 pub use hosts::HostState;

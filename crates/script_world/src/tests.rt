@@ -1,0 +1,214 @@
+ghost use Rattle.std.specs.Prelude.{◌≡◌, ◌<◌, [], ◌∷◌};
+
+use crate::{Begun, Message, Reply, World};
+use client_retry::Heard;
+use ft_base::{
+    Bytes, GroupId, HostNo, Key, Members, Name, NoMemory, Outcome, Par, Request, Retention, Steps,
+    Style, Tick, Version,
+};
+use group_model::{Event, GroupAnswer, Inner, Out};
+use iogr_reference::{Components, GroupRef, Iiop, IiopList};
+use script_clients::{Attempt, ScriptClient, Told};
+use script_groups::ScriptGroup;
+use shipped_servants::Kind;
+use std::alloc::Global;
+use std::marker::Brand;
+use std::process::Abort;
+use std::sync::ledger::{Blank, Ledger};
+use sys_faults::Answer;
+
+fn name(alloc: Global, text: &'static [u8; 3]) -> Result<Name, NoMemory> {
+    match Name::of(alloc, text.as_slice()) {
+        Ok(name) => Ok(name),
+        Err(_) => Err(NoMemory),
+    }
+}
+
+fn request(alloc: Global) -> Result<Request, NoMemory> {
+    let key = Key {
+        client: name(alloc, b"ann")?,
+        retention: Retention(1),
+        expiration: Tick(10),
+    };
+    Ok(Request {
+        key: Some(key),
+        op: name(alloc, b"pop")?,
+        args: Bytes::of(alloc, b"")?,
+    })
+}
+
+/// A request to host 1.
+fn attempt(alloc: Global) -> Result<Attempt, NoMemory> {
+    Ok(Attempt {
+        group: GroupId(1),
+        port: 2001,
+        id: 7,
+        version: Some(Version(1)),
+        request: request(alloc)?,
+    })
+}
+
+/// The reply to it.
+fn reply(alloc: Global) -> Result<Reply, NoMemory> {
+    let value = Bytes::of(alloc, b"\x05")?;
+    Ok(Reply {
+        client: 0,
+        group: GroupId(1),
+        host: HostNo(1),
+        id: 7,
+        answer: Answer::Done(Outcome::Value(value)),
+        gives: Some(Par::I64),
+    })
+}
+
+/// An order to host 1.
+fn order(alloc: Global) -> Result<Out, NoMemory> {
+    let request = request(alloc)?;
+    Ok(Out {
+        to: HostNo(1),
+        carried: Inner::Order { index: 3, request },
+    })
+}
+
+/// A message, in short.
+fn shown(message: &Message) -> (&'static str, u8, u32) {
+    match message {
+        Message::Request { host, attempt, .. } => ("request", host.0, attempt.id),
+        Message::Reply(reply) => ("reply", reply.host.0, reply.id),
+        Message::Carried { out, .. } => match &out.carried {
+            Inner::Order { index, .. } => ("order", out.to.0, *index),
+            _ => ("other", out.to.0, 0),
+        },
+    }
+}
+
+#[test]
+fn messages_are_copied(rt: HostRuntime) -> Result<(), NoMemory> {
+    let alloc = rt.alloc();
+    let asked = Message::Request {
+        client: 0,
+        host: HostNo(1),
+        attempt: attempt(alloc)?,
+    };
+    let copy = asked.copy(alloc)?;
+    assert!(rt; shown(&copy) == ("request", 1, 7));
+    let answered = Message::Reply(reply(alloc)?);
+    let copy = answered.copy(alloc)?;
+    assert!(rt; shown(&copy) == ("reply", 1, 7));
+    let ordered = Message::Carried {
+        group: GroupId(1),
+        out: order(alloc)?,
+    };
+    let copy = ordered.copy(alloc)?;
+    assert!(rt; shown(&copy) == ("order", 1, 3));
+    Ok(())
+}
+
+fn two() -> Members
+    ensures { result ≡ 0 ∷ 1 ∷ [] }
+{
+    let mut members = Members::new();
+    members.join(HostNo(0));
+    members.join(HostNo(1));
+    members
+}
+
+// An account and a client, a request and its reply; host 1 stops and starts again, and the group's host 0 stops.
+fn stop_and_start<L: Ledger>(rt: &impl Abort, alloc: Global, blank: Blank) -> Result<(), NoMemory>
+    requires name { blank.name ≡ L.name }
+    requires parts { blank.parts ≡ L.parts }
+    requires some { 0 < blank.parts }
+{
+    let mut steps = Steps::<L>::new(blank);
+    let mut world = World::new(alloc)?;
+    world.make_hosts(2)?;
+    let account = name(alloc, b"acc")?;
+    let group = ScriptGroup::new(
+        alloc,
+        GroupId(1),
+        account,
+        Kind::Account,
+        Style::Cold,
+        two(),
+    )?;
+    group.is_sound();
+    world.add_group(group)?;
+    world.add_client(ScriptClient::new(name(alloc, b"ann")?, alloc))?;
+    world.send(Message::Request {
+        client: 0,
+        host: HostNo(1),
+        attempt: attempt(alloc)?,
+    })?;
+    world.send(Message::Reply(reply(alloc)?))?;
+    world.set_power(HostNo(1), false, &mut steps)?;
+    assert!(rt; !world.is_up(HostNo(1)));
+    world.set_power(HostNo(1), true, &mut steps)?;
+    assert!(rt; world.is_up(HostNo(1)));
+    assert!(rt; world.entries() == 0);
+    match world.event_at(0, Event::Crash(HostNo(0)), &mut steps) {
+        GroupAnswer::NoMemory => Err(NoMemory),
+        GroupAnswer::Down => Ok(()),
+        _ => {
+            assert!(rt; false);
+            Ok(())
+        }
+    }
+}
+
+#[test]
+fn a_world_is_made(rt: HostRuntime) -> Result<(), NoMemory> {
+    stop_and_start::<Brand>(&rt, rt.alloc(), Blank::new(1))
+}
+
+/// A reference to host 1 alone.
+fn reference(alloc: Global) -> Result<GroupRef, NoMemory> {
+    let profile = Iiop {
+        minor: 2,
+        host: Bytes::of(alloc, b"127.0.0.1")?,
+        port: 2001,
+        key: Bytes::of(alloc, b"FTOG")?,
+        components: Components::from_vec(Vec::new(alloc)),
+    };
+    Ok(GroupRef {
+        domain: Bytes::of(alloc, b"ftc")?,
+        group: GroupId(1),
+        version: Version(1),
+        type_id: Bytes::of(alloc, b"IDL:ftc/Account:1.0")?,
+        profiles: IiopList::from_vec(Vec::from_array(alloc, [profile])?),
+        primary: Some(0),
+    })
+}
+
+fn begun(alloc: Global) -> Result<Begun, NoMemory> {
+    Ok(Begun {
+        reference: reference(alloc)?,
+        expiration: Tick(10),
+        numbers: true,
+        versioned: true,
+        request: request(alloc)?,
+    })
+}
+
+/// What a client is told, in short.
+fn told(told: &Told) -> (&'static str, u64, u64) {
+    match told {
+        Told::Attempt(attempt) => ("attempt", attempt.port as u64, attempt.id as u64),
+        Told::Ended { number, .. } => ("ended", *number as u64, 0),
+        Told::Adopted { .. } => ("adopted", 0, 0),
+        Told::Nothing => ("nothing", 0, 0),
+    }
+}
+
+// A client begins an invocation and hears its reply.
+#[test]
+fn a_call_is_answered(rt: HostRuntime) -> Result<(), NoMemory> {
+    let alloc = rt.alloc();
+    let mut world = World::new(alloc)?;
+    world.add_client(ScriptClient::new(name(alloc, b"ann")?, alloc))?;
+    let attempted = world.start_at(0, begun(alloc)?)?;
+    assert!(rt; told(&attempted) == ("attempt", 2001, 1));
+    let value = Bytes::of(alloc, b"\x05")?;
+    let ended = world.hear_at(0, 1, Heard::Outcome(Outcome::Value(value)))?;
+    assert!(rt; told(&ended) == ("ended", 1, 0));
+    Ok(())
+}
