@@ -1,112 +1,127 @@
--- A request that arrived at its host, from what its parts answer.
-use Rattle.std.proofs.Common.{◌≡◌, ℕ, ◌+◌, ◌++◌, ◌∷◌, [], List, Option, Some, Result, length, refl, subst, sym, ap, ◌∙◌, arith}
-use Rattle.std.specs.Prelude.{slice_get, slice_index, slice_set}
-use Rattle.ft_base.specs.declared.decisions.Decision.{Decision}
-use Rattle.ft_base.specs.declared.requests.Signature.{Signature}
-use Rattle.fault_script.specs.declared.lines.LineFault.{LineFault}
-use Rattle.ft_report.specs.declared.outcomes.ReportOutcome.{ReportOutcome}
+-- A request that comes to its host.
+use Rattle.std.proofs.Common.{◌≡◌, ℕ, zero, suc, ◌+◌, ◌<◌, ◌≤◌, arith, List, [], ◌∷◌, length, Option, Some, None, refl, sym, ap, subst, ◌∙◌}
+use Rattle.std.specs.Prelude.{slice_get, option_map, Result, Ok, Err}
+use Rattle.ft_base.specs.declared.memory.NoMemory.{NoMemory}
+use Rattle.ft_base.specs.declared.numbers.HostNo.{HostNo}
+use Rattle.ft_base.specs.declared.decisions.Stop.{Stop}
 use Rattle.ft_report.specs.declared.reports.ReportLine.{ReportLine}
-use Rattle.ft_report.specs.declared.reports.ReportLine.TheVariants as reports
-use Rattle.lone_group.specs.Servant.{machine}
-use Rattle.lone_group.specs.Group as plain
-use Rattle.lone_group.specs.Group.{Group, serve}
-use Rattle.ft_world.specs.Printed.{shown}
-use Rattle.lone_group.specs.Kept.{IsCountedWithin}
-use Rattle.ft_world.specs.World.{Turn, World, arrives_of, calls_of, judged, served_by}
-use Rattle.ft_world.specs.Sound.{AnsweredAfter, Did, FailsAt, IsServedAt}
-use Rattle.ft_world.specs.declared.clients.Client.{Client}
-use Rattle.lone_group.specs.declared.groups.Served.{Served}
-use Rattle.ft_world.specs.declared.messages.Attempt.{Attempt}
-use Rattle.ft_world.specs.declared.messages.Message.TheVariants as messages
-use Rattle.ft_world.proofs.TurnLemmas.{calls_of-unless, did_after}
+use Rattle.group_model.specs.declared.events.Event.{Event}
+use Rattle.group_model.specs.declared.events.GroupAnswer.{GroupAnswer}
+use Rattle.group_model.specs.declared.events.GroupAnswer.TheVariants as answers
+use Rattle.script_clients.specs.declared.answers.Attempt.{Attempt}
+use Rattle.script_clients.specs.Clients.{Client}
+use Rattle.script_groups.specs.Groups.{ScriptGroup, group_numbered, placed, turn}
+use Rattle.script_world.specs.World.{World, with_event}
+use Rattle.script_world.specs.Worlds.{EventAt, HasTurnAt, IsMade}
+use Rattle.ft_world.specs.Answers.{Does}
+use Rattle.ft_world.specs.Delivering.{answered, asker_of, request_event, requested}
+use Rattle.ft_world.specs.declared.deliveries.Asker.{Asker}
+use Rattle.ft_world.specs.Turns.{Effect, costing, says}
 
--- the turn that the parts make
-made : Attempt → World → Decision → List ℕ → List ℕ → ReportOutcome → ℕ → Turn
-made a mid decision group client printed calls =
-    judged (record mid { messages = mid.messages ++ messages.Reply (record { client = a.client; host = a.host; id = a.id; shown = printed }) ∷ [] })
-    (reports.At a.host group decision ∷ reports.Reply (length mid.messages + 1) a.host client a.id printed ∷ []) calls
+pub get_inside : {A : Type 0} (xs : List A) (i : ℕ) (x : A) → slice_get xs i ≡ Some x → i < length xs
+get_inside [] i x at = absurd cc
+get_inside (y ∷ xs) zero x at = omega arith
+get_inside (y ∷ xs) (suc i) x at = omega (arith, get_inside xs i x at)
 
-made_is : (w : World) (a : Attempt) (g : Group) (c : Client) (wanted : plain.Served) →
-    made a (record w { groups = slice_set w.groups a.group wanted.group }) wanted.decision g.name c.name
-    (shown g.name (machine.signature a.request.op) wanted.answer) wanted.calls
-    ≡ served_by w a g c wanted
-unfolding made
-made_is w a g c wanted = refl
+pub same_some : {A : Type 0} (x y : A) → Some x ≡ Some y → x ≡ y
+same_some x y e = cc
 
-made_calls : (a : Attempt) (mid : World) (d : Decision) (g c : List ℕ) (printed : ReportOutcome) (calls : ℕ) →
-    calls_of (made a mid d g c printed calls) ≡ calls
-unfolding made
-made_calls a mid d g c printed calls = calls_of-unless _ calls _ _
+none_mapped : {A B : Type 0} (f : A → B) (o : Option A) → option_map f o ≡ None → o ≡ None
+none_mapped f None e = refl
+none_mapped f (Some x) e = absurd cc
 
--- a request's turn has the servant calls of its serving
-arrives_as : (w : World) (a : Attempt) (g : Group) (c : Client) → slice_get w.groups a.group ≡ Some g → slice_get w.clients a.client ≡ Some c →
-    arrives_of w a (slice_get w.groups a.group) (slice_get w.clients a.client)
-    ≡ served_by w a g c (serve g (slice_index w.hosts a.host.0) a.request)
-arrives_as w a g c here there =
-    ap (λ (o : Option Group). arrives_of w a o (slice_get w.clients a.client)) here ∙ ap (λ (o : Option Client). arrives_of w a (Some g) o) there
+-- an answer that wants no memory
+pub is_made : {P : Type 0} (a : GroupAnswer) → (a ≡ answers.NoMemory → ⊥) → IsMade a P → P
+is_made answers.NoMemory not it = absurd (not refl)
+is_made (answers.Reply decision answer out) not it = it
+is_made (answers.Known version) not it = it
+is_made (answers.Applied n) not it = it
+is_made (answers.Held n) not it = it
+is_made (answers.Ignored cause) not it = it
+is_made (answers.Taken from position out) not it = it
+is_made (answers.Changed view out) not it = it
+is_made (answers.Refused fault) not it = it
+is_made answers.LogFault not it = it
+is_made answers.Down not it = it
+is_made answers.Up not it = it
 
-pub arrives_calls : (w : World) (a : Attempt) (g : Group) (c : Client) → slice_get w.groups a.group ≡ Some g → slice_get w.clients a.client ≡ Some c →
-    calls_of (arrives_of w a (slice_get w.groups a.group) (slice_get w.clients a.client))
-    ≡ (serve g (slice_index w.hosts a.host.0) a.request).calls
-arrives_calls w a g c here there =
-    let wanted = serve g (slice_index w.hosts a.host.0) a.request in
-    ap calls_of (arrives_as w a g c here there ∙ sym (made_is w a g c wanted)) ∙ made_calls a _ _ _ _ _ wanted.calls
+pub has_turn : (w : World) (place : ℕ) (e : Event) (a : GroupAnswer) (later : World) (before now : ℕ) → (a ≡ answers.NoMemory → ⊥) → EventAt w place e a later before now → HasTurnAt w place e a later before now
+has_turn w place e answers.NoMemory later before now not it = absurd (not refl)
+has_turn w place e (answers.Reply decision answer out) later before now not it = it
+has_turn w place e (answers.Known version) later before now not it = it
+has_turn w place e (answers.Applied n) later before now not it = it
+has_turn w place e (answers.Held n) later before now not it = it
+has_turn w place e (answers.Ignored cause) later before now not it = it
+has_turn w place e (answers.Taken from position out) later before now not it = it
+has_turn w place e (answers.Changed view out) later before now not it = it
+has_turn w place e (answers.Refused fault) later before now not it = it
+has_turn w place e answers.LogFault later before now not it = it
+has_turn w place e answers.Down later before now not it = it
+has_turn w place e answers.Up later before now not it = it
 
--- no memory was found while it was served
-pub arrives_fails : (w : World) (a : Attempt) (g : Group) (c : Client) (clock before later : ℕ) → slice_get w.groups a.group ≡ Some g →
-    slice_get w.clients a.client ≡ Some c → clock ≡ slice_index w.hosts a.host.0 → FailsAt a.group clock a.request w before later →
-    IsCountedWithin (calls_of (arrives_of w a (slice_get w.groups a.group) (slice_get w.clients a.client))) before later
-arrives_fails w a g c clock before later here there time fails =
-    subst (λ (n : ℕ). IsCountedWithin n before later)
-    (ap (λ (t : ℕ). (serve g t a.request).calls) time ∙ sym (arrives_calls w a g c here there)) (fails g here)
+-- what was done behind servant calls
+pub does_behind : (calls : ℕ) (e : Effect) (result : Result (List ReportLine) NoMemory) (new : World) (before between now : ℕ) →
+    between ≡ before + calls → Does e result new between now → Does (costing calls e) result new before now
+does_behind calls e (Ok report) new before between now is done =
+    record { world = done.world; lines = done.lines; calls = omega (arith, is, done.calls) }
+does_behind calls e (Err why) new before between now is done = omega (arith, is, done)
 
--- the one group at the place
-served_group : (w : World) (a : Attempt) (g : Group) (clock : ℕ) (s : Served) (mid : World) (before later : ℕ) →
-    slice_get w.groups a.group ≡ Some g → (is : IsServedAt a.group clock a.request w s mid before later) → is.group ≡ g
-served_group w a g clock s mid before later here is = let e : Some is.group ≡ Some g = sym is.was ∙ here in cc
+module _ (w : World) (k client : ℕ) (host : HostNo) (a : Attempt) (stop : Stop) (place : ℕ) (g : ScriptGroup)
+    (numbered : group_numbered w.groups a.group.0 ≡ Some (placed place g)) where
+  -- of a client that isn't there
+  pub nobody_asks : option_map (asker_of client host a g) (slice_get w.clients client) ≡ None →
+      requested w k client host a stop (group_numbered w.groups a.group.0) (slice_get w.clients client) ≡ says w []
+  nobody_asks none =
+      ap (λ o. requested w k client host a stop o (slice_get w.clients client)) numbered
+      ∙ ap (requested w k client host a stop (Some (placed place g))) (none_mapped (asker_of client host a g) (slice_get w.clients client) none)
 
--- or after it
-pub arrives_unshown : (w mid : World) (a : Attempt) (g : Group) (c : Client) (clock before later : ℕ) (s : Served) → slice_get w.groups a.group ≡ Some g →
-    slice_get w.clients a.client ≡ Some c → clock ≡ slice_index w.hosts a.host.0 → IsServedAt a.group clock a.request w s mid before later →
-    IsCountedWithin (calls_of (arrives_of w a (slice_get w.groups a.group) (slice_get w.clients a.client))) before later
-arrives_unshown w mid a g c clock before later s here there time is =
-    let same = served_group w a g clock s mid before later here is in
-    let calls : (serve is.group clock a.request).calls ≡ calls_of (arrives_of w a (slice_get w.groups a.group) (slice_get w.clients a.client)) =
-    ap (λ (h : Group). (serve h clock a.request).calls) same ∙ ap (λ (t : ℕ). (serve g t a.request).calls) time
-    ∙ sym (arrives_calls w a g c here there) in
-    record { rises = omega (arith, is.is.counted); within = omega (arith, is.is.counted, calls) }
+  asks_as : (asker : Asker) → option_map (asker_of client host a g) (slice_get w.clients client) ≡ Some asker →
+      requested w k client host a stop (group_numbered w.groups a.group.0) (slice_get w.clients client)
+      ≡ costing (turn g (request_event w host a stop)).calls (answered (with_event w place g (request_event w host a stop)) k asker (turn g (request_event w host a stop)).answer)
+  asks_as asker some = go (slice_get w.clients client) some
+    where
+      go : (o : Option Client) → option_map (asker_of client host a g) o ≡ Some asker →
+          requested w k client host a stop (group_numbered w.groups a.group.0) o
+          ≡ costing (turn g (request_event w host a stop)).calls (answered (with_event w place g (request_event w host a stop)) k asker (turn g (request_event w host a stop)).answer)
+      go None e = absurd cc
+      go (Some c) e =
+          ap (λ o. requested w k client host a stop o (Some c)) numbered
+          ∙ ap (λ (x : Asker). costing (turn g (request_event w host a stop)).calls (answered (with_event w place g (request_event w host a stop)) k x (turn g (request_event w host a stop)).answer))
+          (same_some (asker_of client host a g c) asker e)
 
--- the reply was sent, or a total refuses it
-pub arrives_did : (w mid new : World) (a : Attempt) (g : Group) (c : Client) (clock before later : ℕ) (s : Served) (signature : Option Signature)
-    (printed : ReportOutcome) (group client : List ℕ) (r : Result (List ReportLine) LineFault) → slice_get w.groups a.group ≡ Some g →
-    slice_get w.clients a.client ≡ Some c → clock ≡ slice_index w.hosts a.host.0 → IsServedAt a.group clock a.request w s mid before later →
-    group ≡ g.name → client ≡ c.name → signature ≡ machine.signature a.request.op → printed ≡ shown group signature s.answer →
-    ((calls : ℕ) → AnsweredAfter calls
-    (judged (record mid { messages = mid.messages ++ messages.Reply (record { client = a.client; host = a.host; id = a.id; shown = printed }) ∷ [] })
-    (reports.At a.host group s.decision ∷ reports.Reply (length mid.messages + 1) a.host client a.id printed ∷ []) calls) r new) →
-    Did (arrives_of w a (slice_get w.groups a.group) (slice_get w.clients a.client)) r new before later
-unfolding made
-arrives_did w mid new a g c clock before later s signature printed group client r here there time is gname cname sig print sent =
-    let wanted : plain.Served = serve g (slice_index w.hosts a.host.0) a.request in
-    let same = served_group w a g clock s mid before later here is in
-    let served : serve is.group clock a.request ≡ wanted =
-    ap (λ (h : Group). serve h clock a.request) same ∙ ap (λ (t : ℕ). serve g t a.request) time in
-    let next : is.next ≡ wanted.group = is.is.left ∙ ap (λ (v : plain.Served). v.group) served in
-    let then : World = record w { groups = slice_set w.groups a.group wanted.group } in
-    let world : mid ≡ then =
-    is.left ∙ ap (λ (h : Group). record w { groups = slice_set w.groups a.group h }) next in
-    let decision : s.decision ≡ wanted.decision = is.is.decision ∙ ap (λ (v : plain.Served). v.decision) served in
-    let answer : printed ≡ shown g.name (machine.signature a.request.op) wanted.answer =
-    print ∙ ap (λ (n : List ℕ). shown n signature s.answer) gname ∙ ap (λ (o : Option Signature). shown g.name o s.answer) sig
-    ∙ ap (shown g.name (machine.signature a.request.op)) (is.is.answer ∙ ap (λ (v : plain.Served). v.answer) served) in
-    let turn : made a mid s.decision group client printed wanted.calls
-    ≡ arrives_of w a (slice_get w.groups a.group) (slice_get w.clients a.client) =
-    ap (λ (m : World). made a m s.decision group client printed wanted.calls) world
-    ∙ ap (λ (d : Decision). made a then d group client printed wanted.calls) decision
-    ∙ ap (λ (n : List ℕ). made a then wanted.decision n client printed wanted.calls) gname
-    ∙ ap (λ (n : List ℕ). made a then wanted.decision g.name n printed wanted.calls) cname
-    ∙ ap (λ (p : ReportOutcome). made a then wanted.decision g.name c.name p wanted.calls) answer
-    ∙ made_is w a g c wanted ∙ sym (arrives_as w a g c here there) in
-    did_after _ wanted.calls before later r new (arrives_calls w a g c here there)
-    (is.is.counted ∙ ap (λ (v : plain.Served). before + v.calls) served)
-    (subst (λ (t : Turn). AnsweredAfter wanted.calls t r new) turn (sent wanted.calls))
+  -- whom it is from
+  pub asker_is : (asker : Asker) → option_map (asker_of client host a g) (slice_get w.clients client) ≡ Some asker → (asker.host ≡ host) × (asker.group ≡ g.id)
+  asker_is asker some = go (slice_get w.clients client) some
+    where
+      go : (o : Option Client) → option_map (asker_of client host a g) o ≡ Some asker → (asker.host ≡ host) × (asker.group ≡ g.id)
+      go None e = absurd cc
+      go (Some c) e = (let same = same_some (asker_of client host a g c) asker e in (ap (λ (x : Asker). x.host) (sym same), ap (λ (x : Asker). x.group) (sym same)))
+
+  -- no memory for its event
+  pub short_request : (asker : Asker) → option_map (asker_of client host a g) (slice_get w.clients client) ≡ Some asker → (e : Event) → e ≡ request_event w host a stop →
+      slice_get w.groups place ≡ Some g → (later : World) (before now : ℕ) → EventAt w place e answers.NoMemory later before now →
+      now ≤ before + (requested w k client host a stop (group_numbered w.groups a.group.0) (slice_get w.clients client)).calls
+  short_request asker some e is there later before now short =
+      let same : short.group ≡ g = same_some short.group g (sym short.there ∙ there) in
+      let calls : now ≤ before + (turn g (request_event w host a stop)).calls =
+      subst (λ x. now ≤ before + (turn g x).calls) is (subst (λ (s : ScriptGroup). now ≤ before + (turn s e).calls) same short.calls) in
+      subst (λ (f : Effect). now ≤ before + f.calls) (sym (asks_as asker some)) (omega (arith, calls))
+
+  -- it had its event, and what came of that was done
+  pub request_done : (asker : Asker) → option_map (asker_of client host a g) (slice_get w.clients client) ≡ Some asker → (e : Event) → e ≡ request_event w host a stop →
+      slice_get w.groups place ≡ Some g → (answer : GroupAnswer) → (answer ≡ answers.NoMemory → ⊥) → (later new : World) (before between now : ℕ) → EventAt w place e answer later before between →
+      (result : Result (List ReportLine) NoMemory) → Does (answered later k asker answer) result new between now →
+      Does (requested w k client host a stop (group_numbered w.groups a.group.0) (slice_get w.clients client)) result new before now
+  request_done asker some e is there answer made later new before between now had result done =
+      let it = has_turn w place e answer later before between made had in
+      let same : it.group ≡ g = same_some it.group g (sym it.there ∙ there) in
+      let later_is : later ≡ with_event w place g (request_event w host a stop) =
+      it.is ∙ ap (λ (s : ScriptGroup). with_event w place s e) same ∙ ap (with_event w place g) is in
+      let answer_is : (turn g (request_event w host a stop)).answer ≡ answer =
+      ap (λ x. (turn g x).answer) (sym is) ∙ ap (λ (s : ScriptGroup). (turn s e).answer) (sym same) ∙ it.told in
+      let counted : between ≡ before + (turn g (request_event w host a stop)).calls =
+      it.calls ∙ ap (λ (s : ScriptGroup). before + (turn s e).calls) same ∙ ap (λ x. before + (turn g x).calls) is in
+      subst (λ (f : Effect). Does f result new before now) (sym (asks_as asker some))
+      (does_behind (turn g (request_event w host a stop)).calls (answered (with_event w place g (request_event w host a stop)) k asker (turn g (request_event w host a stop)).answer) result new before between now counted
+      (subst (λ (b : GroupAnswer). Does (answered (with_event w place g (request_event w host a stop)) k asker b) result new between now) (sym answer_is)
+      (subst (λ (v : World). Does (answered v k asker answer) result new between now) later_is done)))

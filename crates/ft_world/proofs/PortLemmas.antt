@@ -1,56 +1,183 @@
--- Every host number has a port, and a group's reference is short.
-use Rattle.std.proofs.Common.{◌≡◌, ℕ, ◌+◌, ◌<◌, ◌≤◌, Bool, true, false, List, [], ◌∷◌, length, refl, sym, ap, ◌∙◌, subst, arith}
-use Rattle.std.specs.Prelude.{codes, slice_index, ◌==◌, ◌^◌}
-use Rattle.std.specs.List.{All}
-use Rattle.std.proofs.lemmas.Bool.{leb-true, ltb-true}
-use Rattle.std.proofs.lemmas.List.FromFn.{length-map-range_with_len}
-use Rattle.std.proofs.lemmas.List.Elements.{All-nil, All-cons}
+-- What a host makes of a link's messages, in a world.
+use Rattle.std.proofs.Common.{◌≡◌, ℕ, ◌+◌, ◌≤◌, Bool, true, List, [], ◌∷◌, ◌++◌, Option, Some, None, refl, sym, ap, subst, ◌∙◌, arith}
+use Rattle.std.specs.Prelude.{OnOk, Result, Ok, Err, not, if◌then◌else◌}
+use Rattle.fault_script.specs.declared.lines.LineFault.TheVariants.{Unknown}
+use Rattle.ft_base.specs.declared.memory.NoMemory.{NoMemory}
+use Rattle.ft_base.specs.declared.numbers.HostNo.{HostNo}
 use Rattle.cdr_codec.specs.declared.orders.Order.{Order}
-use Rattle.cdr_codec.specs.declared.orders.Order.TheVariants.{Big, Little}
-use Rattle.iogr_reference.specs.declared.references.Ior.{Ior}
-use Rattle.iogr_reference.specs.declared.references.Profile.{Profile}
-use Rattle.iogr_reference.specs.Formats.{ior}
-use Rattle.iogr_reference.specs.Choices.{port_of}
-use Rattle.iogr_reference.specs.Views.{member_profile}
-use Rattle.host_server.specs.Replies.{IsForward}
-use Rattle.ft_world.specs.Links.{ports, reference}
+use Rattle.ft_report.specs.declared.reports.ReportLine.{ReportLine}
+use Rattle.ft_report.specs.declared.reports.ReportLine.TheVariants as reports
+use Rattle.giop_stream.specs.declared.sessions.StreamEnd.{StreamEnd}
+use Rattle.group_model.specs.declared.asking.Asked.{Asked}
+use Rattle.group_model.specs.Views.{host_no}
+use Rattle.host_server.specs.declared.answers.PortAnswer.{PortAnswer}
+use Rattle.host_server.specs.declared.answers.PortAnswer.TheVariants as port_answers
+use Rattle.link_session.specs.Ports.{called, end_error, linked, locate_reply_of, reply_of, writes}
+use Rattle.link_session.specs.declared.calls.Calling.{Calling}
+use Rattle.link_session.specs.declared.calls.Calling.TheVariants.{Ask, Locate, Nothing}
+use Rattle.script_groups.specs.Groups.{ScriptGroup, Placed}
+use Rattle.script_world.specs.World.{World, is_there, is_up}
+use Rattle.ft_world.specs.Answers.{HasDone, calls_of}
+use Rattle.ft_world.specs.Links.{Asking, ask_group, asking, bytes_lines, end_line, group_keyed, inject_line, is_here, link_of, with_end, world_port}
+use Rattle.ft_world.specs.Serving.{Asks, Changes, IsAsked, IsChange, IsServed, IsWithin}
+use Rattle.ft_world.specs.Turns.{Effect, Turn, Goes, cause, effect, first_cause, goes, says, unless}
+use Rattle.ft_world.proofs.LinkLemmas.{calls_grow}
+use Rattle.ft_world.proofs.SendingLemmas.{none_more}
+use Rattle.ft_world.proofs.TurnLemmas.{acts_by}
 
-ports_length : (host : ℕ) → length (ports host) ≡ host + 1
-unfolding ports
-ports_length host = length-map-range_with_len port_of 0 (host + 1)
+-- ---- a request for the object of a key
 
-pub member_has_port : (hosts all : List ℕ) (host : ℕ) → hosts ≡ host ∷ [] → all ≡ ports host → All (λ (h : ℕ). h < length all) hosts
-member_has_port hosts all host is are =
-    let count : length all ≡ host + 1 = ap length are ∙ ports_length host in
-    subst (λ (hs : List ℕ). All (λ (h : ℕ). h < length all) hs) (sym is)
-    (All-cons (λ (h : ℕ). h < length all) host [] (let e : host < length all = omega arith in e) (All-nil (λ (h : ℕ). h < length all)))
+module _ (w new : World) (host : ℕ) (key : List ℕ) (asked : Asked) (report after : List ReportLine) (before now : ℕ) where
+  pub asks_keyed : (o : Option (Placed ScriptGroup)) (result : Result PortAnswer NoMemory) → group_keyed w key ≡ o →
+      Asks (λ e. ask_group e host asked o) result w new report after before now →
+      Asks (λ e. ask_group e host asked (group_keyed e.world key)) result w new report after before now
+  asks_keyed o (Ok answer) is a = record {
+    calls = a.calls;
+    is = λ so_far. ap (ask_group (effect w report so_far) host asked) is ∙ a.is so_far;
+    counted = a.counted;
+    can = a.can;
+  }
+  asks_keyed o (Err why) is a = λ so_far.
+      subst (λ (x : Option (Placed ScriptGroup)). so_far + now ≤ before + (ask_group (effect w report so_far) host asked x).effect.calls) (sym is) (a so_far)
 
--- ---- the reference of a group of one member
-
-abbrev of_one : ℕ → ℕ → Bool → Ior
-of_one place port b = record { type_id = codes "IDL:ftc/Account:1.0"; profiles = member_profile (record { 0 = place + 1 }) (record { 0 = 1 }) port b ∷ [] }
-
-one_short : (order : Order) (place port : ℕ) (b : Bool) → length (ior.written order 0 (of_one place port b)) ≤ 65536
-one_short Big place port true = leb-true (length (ior.written Big 0 (of_one place port true))) 65536 refl
-one_short Big place port false = leb-true (length (ior.written Big 0 (of_one place port false))) 65536 refl
-one_short Little place port true = leb-true (length (ior.written Little 0 (of_one place port true))) 65536 refl
-one_short Little place port false = leb-true (length (ior.written Little 0 (of_one place port false))) 65536 refl
-
-abbrev content_of : ℕ → ℕ → Bool → List ℕ
-content_of place port b = (member_profile (record { 0 = place + 1 }) (record { 0 = 1 }) port b).content
-
-content_short : (place port : ℕ) (b : Bool) → length (content_of place port b) < 2 ^ 32
-content_short place port true = ltb-true (length (content_of place port true)) (2 ^ 32) refl
-content_short place port false = ltb-true (length (content_of place port false)) (2 ^ 32) refl
-
-pub is_forward : (order : Order) (place host : ℕ) → IsForward order (reference place host)
-is_forward order place host = record {
-  writable = record {
-    no_zero = refl;
-    short = let e : length (codes "IDL:ftc/Account:1.0") ≡ 19 = refl in omega arith;
-    counted = let e : length (reference place host).profiles ≡ 1 = refl in omega arith;
-    contents = All-cons (λ (p : Profile). length p.content < 2 ^ 32) (member_profile (record { 0 = place + 1 }) (record { 0 = 1 }) (slice_index (ports host) host) (host == host)) []
-        (content_short place (slice_index (ports host) host) (host == host)) (All-nil (λ (p : Profile). length p.content < 2 ^ 32));
-  };
-  short = one_short order place (slice_index (ports host) host) (host == host);
+-- no group has this key
+pub none_asked : (w : World) (host : ℕ) (key : List ℕ) (asked : Asked) (report after : List ReportLine) (now : ℕ) → group_keyed w key ≡ None →
+    after ≡ report ++ reports.NoGroup (host_no host) ∷ [] →
+    IsAsked (λ e. ask_group e host asked (group_keyed e.world key)) port_answers.NoGroup w w report after now now
+none_asked w host key asked report after now none are = record {
+  calls = 0;
+  is = λ so_far.
+      ap (ask_group (effect w report so_far) host asked) none
+      ∙ ap (λ (ls : List ReportLine). asking (effect w ls (so_far + 0)) port_answers.NoGroup) (sym are);
+  counted = omega arith;
+  can = λ order. tt;
 }
+
+-- ---- what is written
+
+pub written_is : (host : ℕ) (w : World) (lines : List ReportLine) (calls : ℕ) (bytes : Option (List ℕ)) →
+    writes (world_port host) (effect w lines calls) bytes ≡ effect w (lines ++ bytes_lines bytes) calls
+written_is host w lines calls None = ap (λ (ls : List ReportLine). effect w ls calls) (sym (none_more lines))
+written_is host w lines calls (Some bytes) = ap (λ (n : ℕ). effect w (lines ++ reports.Bytes bytes ∷ []) n) (let same : calls + 0 ≡ calls = omega arith in same)
+
+pub writes_calls : (host : ℕ) (e : Effect) (bytes : Option (List ℕ)) → (writes (world_port host) e bytes).calls ≡ e.calls
+writes_calls host e None = refl
+writes_calls host e (Some bytes) = omega arith
+
+-- ---- what a message calls for
+
+module _ (w : World) (host : ℕ) (order : Order) (report : List ReportLine) (before : ℕ) where
+  module _ (id flags : ℕ) (key : List ℕ) (asked : Asked) where
+    -- the calls of a request are those of what it asks
+    ask_calls : (so_far : ℕ) →
+        (called (world_port host) (effect w report so_far) order (Ask id flags key asked)).calls
+        ≡ (ask_group (effect w report so_far) host asked (group_keyed w key)).effect.calls
+    ask_calls so_far =
+        let a : Asking = ask_group (effect w report so_far) host asked (group_keyed w key) in
+        writes_calls host a.effect (reply_of id flags order a.answer)
+
+    -- it was asked and answered, and this was written
+    pub ask_changes : (answer : PortAnswer) (new : World) (mid after : List ReportLine) (now : ℕ) (bytes : Option (List ℕ)) →
+        IsAsked (λ e. ask_group e host asked (group_keyed e.world key)) answer w new report mid before now →
+        bytes ≡ reply_of id flags order answer → after ≡ mid ++ bytes_lines bytes →
+        IsChange (λ e. called (world_port host) e order (Ask id flags key asked)) w new report after before now
+    ask_changes answer new mid after now bytes a are lines = record {
+      calls = a.calls;
+      is = λ so_far.
+          ap (λ (x : Asking). writes (world_port host) x.effect (reply_of id flags order x.answer)) (a.is so_far)
+          ∙ ap (λ (x : Option (List ℕ)). writes (world_port host) (effect new mid (so_far + a.calls)) x) (sym are)
+          ∙ written_is host new mid (so_far + a.calls) bytes
+          ∙ ap (λ (ls : List ReportLine). effect new ls (so_far + a.calls)) (sym lines);
+      counted = a.counted;
+    }
+
+    -- memory was wanted in it
+    pub ask_short : (now : ℕ) →
+        ((so_far : ℕ) → so_far + now ≤ before + (ask_group (effect w report so_far) host asked (group_keyed w key)).effect.calls) →
+        IsWithin (λ e. called (world_port host) e order (Ask id flags key asked)) w report before now
+    ask_short now short = λ so_far. omega (arith, short so_far, ask_calls so_far)
+
+    -- memory was wanted behind it
+    pub ask_stopped : (answer : PortAnswer) (new : World) (mid : List ReportLine) (now : ℕ) →
+        IsAsked (λ e. ask_group e host asked (group_keyed e.world key)) answer w new report mid before now →
+        IsWithin (λ e. called (world_port host) e order (Ask id flags key asked)) w report before now
+    ask_stopped answer new mid now a = λ so_far.
+        omega (arith, a.counted, ask_calls so_far, ap (λ (x : Asking). x.effect.calls) (a.is so_far))
+
+    -- and then, whether or not there was memory to write it
+    pub ask_pushed : (answer : PortAnswer) (new : World) (mid after : List ReportLine) (now : ℕ) (bytes : Option (List ℕ)) (result : Result (Unit {0}) NoMemory) →
+        IsAsked (λ e. ask_group e host asked (group_keyed e.world key)) answer w new report mid before now →
+        bytes ≡ reply_of id flags order answer → OnOk result (after ≡ mid ++ bytes_lines bytes) →
+        Changes (λ e. called (world_port host) e order (Ask id flags key asked)) result w new report after before now
+    ask_pushed answer new mid after now bytes (Ok u) a are lines = ask_changes answer new mid after now bytes a are lines
+    ask_pushed answer new mid after now bytes (Err why) a are lines = ask_stopped answer new mid now a
+
+  pub locate_changes : (id : ℕ) (key bytes : List ℕ) (here : Bool) (after : List ReportLine) → here ≡ is_here host (group_keyed w key) →
+      bytes ≡ locate_reply_of id order here → after ≡ report ++ reports.Bytes bytes ∷ [] →
+      IsChange (λ e. called (world_port host) e order (Locate id key)) w w report after before before
+  locate_changes id key bytes here after is are lines = record {
+    calls = 0;
+    is = λ so_far.
+        ap (λ (b : Bool). effect w (report ++ reports.Bytes (locate_reply_of id order b) ∷ []) (so_far + 0)) (sym is)
+        ∙ ap (λ (bs : List ℕ). effect w (report ++ reports.Bytes bs ∷ []) (so_far + 0)) (sym are)
+        ∙ ap (λ (ls : List ReportLine). effect w ls (so_far + 0)) (sym lines);
+    counted = omega arith;
+  }
+
+  -- nothing was done yet
+  pub none_called : (calling : Calling) → IsWithin (λ e. called (world_port host) e order calling) w report before before
+  none_called (Ask id flags key asked) = λ so_far. omega (arith, ask_calls id flags key asked so_far, (calls_grow host).asks (effect w report so_far) key asked)
+  none_called (Locate id key) = λ so_far. omega arith
+  none_called Nothing = λ so_far. omega arith
+
+  pub nothing_changes : IsChange (λ e. called (world_port host) e order Nothing) w w report report before before
+  nothing_changes = record {
+    calls = 0;
+    is = λ so_far. ap (λ (n : ℕ). effect w report n) (let same : so_far ≡ so_far + 0 = omega arith in same);
+    counted = omega arith;
+  }
+
+-- ---- the end of a link
+
+module _ (w new : World) (host : ℕ) (bytes : List ℕ) (end : StreamEnd) (mid : List ReportLine) (before now : ℕ)
+    (s : IsServed w host bytes end new mid before now) where
+  link_is : link_of w host bytes ≡ effect new ((mid ++ bytes_lines (end_error end)) ++ end_line end ∷ []) (s.calls + 0)
+  link_is =
+      ap (λ (x : StreamEnd). with_end x (linked (world_port host) (says w []) bytes)) s.over
+      ∙ ap (with_end end) (s.is ∙ written_is host new mid s.calls (end_error end))
+
+  pub link_done : (answer : Option (List ℕ)) (after last : List ReportLine) → answer ≡ end_error end → after ≡ mid ++ bytes_lines answer →
+      last ≡ after ++ end_line end ∷ [] → HasDone (link_of w host bytes) last new before now
+  link_done answer after last is are so =
+      subst (λ (e : Effect). HasDone e last new before now) (sym link_is) (record {
+        world = refl;
+        lines = so ∙ ap (λ (ls : List ReportLine). ls ++ end_line end ∷ []) (are ∙ ap (λ (x : Option (List ℕ)). mid ++ bytes_lines x) is);
+        calls = omega (arith, s.counted);
+      })
+
+  -- memory was wanted behind its messages
+  pub link_stopped : now ≤ before + (link_of w host bytes).calls
+  link_stopped = omega (arith, s.counted, ap (λ (e : Effect). e.calls) link_is)
+
+-- ---- the line
+
+pub inject_is : (w : World) (number : ℕ) (host : HostNo) (bytes : List ℕ) → is_there w number ≡ true → host.0 ≡ number → is_up w host.0 ≡ true →
+    inject_line w number bytes ≡ goes (link_of w host.0 bytes)
+inject_is w number host bytes there is up =
+    ap (λ (b : Bool). unless (first_cause (cause (not b) Unknown ∷ [])) 0 (goes (if is_up w number then link_of w number bytes else says w (reports.LinkLost ∷ [])))) there
+    ∙ ap (λ (n : ℕ). goes (if is_up w n then link_of w n bytes else says w (reports.LinkLost ∷ []))) (sym is)
+    ∙ ap (λ (b : Bool). goes (if b then link_of w host.0 bytes else says w (reports.LinkLost ∷ []))) up
+
+-- the link was served
+pub injected : (w new : World) (number : ℕ) (host : HostNo) (bytes : List ℕ) (report : List ReportLine) (before now : ℕ) →
+    is_there w number ≡ true → host.0 ≡ number → is_up w host.0 ≡ true → HasDone (link_of w host.0 bytes) report new before now →
+    (inject_line w number bytes ≡ Goes new report (calls_of (inject_line w number bytes))) × (now ≡ before + calls_of (inject_line w number bytes))
+injected w new number host bytes report before now there is up done =
+    acts_by (inject_line w number bytes) (link_of w host.0 bytes) report new before now (inject_is w number host bytes there is up) done
+
+-- memory was wanted in it
+pub inject_short : (w : World) (number : ℕ) (host : HostNo) (bytes : List ℕ) (before now : ℕ) →
+    is_there w number ≡ true → host.0 ≡ number → is_up w host.0 ≡ true → now ≤ before + (link_of w host.0 bytes).calls →
+    now ≤ before + calls_of (inject_line w number bytes)
+inject_short w number host bytes before now there is up short =
+    subst (λ (t : Turn). now ≤ before + calls_of t) (sym (inject_is w number host bytes there is up)) short

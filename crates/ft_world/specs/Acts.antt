@@ -1,16 +1,27 @@
--- What each line of a script does.
+-- What each line does.
 use Rattle.fault_script.specs.declared.lines.Line.{Line}
 use Rattle.fault_script.specs.declared.lines.Line.TheVariants as lines
-use Rattle.ft_world.specs.World.{Turn, World, call_line, client_line, deliver_line, group_line, hosts_line, show_line, tick_line}
+use Rattle.ft_world.specs.Clients.{call_line}
+use Rattle.ft_world.specs.Delivering.{deliver_line}
+use Rattle.ft_world.specs.Hosts.{change_line, crash_line, restart_line, show_line}
 use Rattle.ft_world.specs.Links.{inject_line}
+use Rattle.ft_world.specs.Making.{client_line, group_line, hosts_line, tick_line}
+use Rattle.script_world.specs.World.{World}
+use Rattle.ft_world.specs.Turns.{Turn, judged}
 
--- a row for each line
+-- before its totals are judged
+abbrev pub act_first : World → Line → Turn
+act_first w (lines.Hosts count) = hosts_line w count
+act_first w (lines.Group name kind style members) = group_line w name kind style members
+act_first w (lines.Client name) = client_line w name
+act_first w (lines.Call client group op words) = call_line w client group op words
+act_first w (lines.Deliver number stop) = deliver_line w number stop
+act_first w (lines.Tick ticks) = tick_line w ticks
+act_first w (lines.Show name) = show_line w name
+act_first w (lines.Inject host bytes) = inject_line w host bytes
+act_first w (lines.Change change group host) = change_line w change group host
+act_first w (lines.Crash host) = crash_line w host
+act_first w (lines.Restart host) = restart_line w host
+
 abbrev pub act : World → Line → Turn
-act w (lines.Hosts count) = hosts_line w count
-act w (lines.Group name member) = group_line w name member
-act w (lines.Client name) = client_line w name
-act w (lines.Call client group op words) = call_line w client group op words
-act w (lines.Deliver k) = deliver_line w k
-act w (lines.Tick ticks) = tick_line w ticks
-act w (lines.Show name) = show_line w name
-act w (lines.Inject host bytes) = inject_line w host bytes
+act w line = judged (act_first w line)

@@ -1,8 +1,13 @@
+pub mod Turns
+pub mod Making
+pub mod Sending
 pub mod Printed
-pub mod World
+pub mod Clients
+pub mod Hosts
+pub mod Delivering
 pub mod Links
+pub mod Lines
 pub mod Acts
+pub mod Answers
 pub mod Serving
-pub mod Sound
-pub mod Standing
-pub mod Once
+pub mod Laws

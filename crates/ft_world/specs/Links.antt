@@ -1,177 +1,128 @@
--- A link of a script: what a host says to the messages in its bytes, and how the link ends.
+-- `inject H HEX`: the bytes of a whole link come to a host, which serves the link's session through a port.
 -- (GIOP chapter, "GIOP Message Transfer".)
-use Rattle.std.specs.Prelude.{ℕ, ◌+◌, ◌-◌, ◌%◌, ◌==◌, not, Bool, true, false, if◌then◌else◌, List, [], ◌∷◌, ◌++◌, map, codes, slice_get, slice_set, slice_index, Option, Some, None, option_map}
-use Rattle.std.specs.List.{range_with_len}
-use Rattle.ft_base.specs.declared.requests.Signature.{Signature}
-use Rattle.ft_base.specs.declared.views.View.{View}
-use Rattle.cdr_codec.specs.declared.orders.Order.{Order}
-use Rattle.cdr_codec.specs.declared.orders.Order.TheVariants.{Big}
-use Rattle.sys_faults.specs.declared.answers.Answer.{Answer}
-use Rattle.sys_faults.specs.declared.answers.Answer.TheVariants as answers
-use Rattle.iogr_reference.specs.declared.references.Ior.{Ior}
+use Rattle.std.specs.Prelude.{ℕ, ◌+◌, Bool, true, false, if◌then◌else◌, List, [], ◌∷◌, ◌++◌, length, Option, Some, None}
+use Rattle.ft_base.specs.declared.decisions.Stop.TheVariants.{Never}
 use Rattle.ft_base.specs.declared.numbers.GroupId.{GroupId}
-use Rattle.iogr_reference.specs.Choices.{group_of_key, port_of, repository_id}
-use Rattle.iogr_reference.specs.Views.{reference_of}
-use Rattle.giop_messages.specs.declared.faults.Why.{Why}
-use Rattle.giop_messages.specs.declared.faults.Why.TheVariants as causes
-use Rattle.giop_messages.specs.declared.messages.Message.{Message}
-use Rattle.giop_messages.specs.declared.messages.Message.TheVariants as messages
-use Rattle.giop_messages.specs.declared.messages.RequestMsg.{RequestMsg}
-use Rattle.giop_messages.specs.Writing.{written_message}
-use Rattle.giop_stream.specs.declared.sessions.StreamEnd.{StreamEnd}
-use Rattle.giop_stream.specs.declared.sessions.StreamEnd.TheVariants.{Closed, Malformed, TooLarge}
-use Rattle.giop_stream.specs.Parts.{Received}
-use Rattle.giop_stream.specs.Sessions.{session}
-use Rattle.host_server.specs.declared.answers.PortAnswer.{PortAnswer}
-use Rattle.host_server.specs.declared.answers.PortAnswer.TheVariants as port_answers
-use Rattle.host_server.specs.Replies.{reply_to, locate_reply_to}
-use Rattle.group_model.specs.declared.asking.Asked.{Asked}
-use Rattle.lone_group.specs.Asked.{asked_of}
-use Rattle.lone_group.specs.Group.{Group, Served, ask, signature_asked}
-use Rattle.fault_script.specs.declared.lines.LineFault.TheVariants.{Unknown}
+use Rattle.ft_base.specs.declared.requests.Par.{Par}
 use Rattle.ft_report.specs.declared.reports.ReportLine.{ReportLine}
 use Rattle.ft_report.specs.declared.reports.ReportLine.TheVariants as reports
+use Rattle.giop_stream.specs.declared.sessions.StreamEnd.{StreamEnd}
+use Rattle.giop_stream.specs.declared.sessions.StreamEnd.TheVariants.{Closed, Malformed, TooLarge}
+use Rattle.giop_stream.specs.Sessions.{session}
+use Rattle.group_model.specs.declared.asking.Asked.{Asked}
+use Rattle.group_model.specs.declared.events.Event.{Event}
+use Rattle.group_model.specs.declared.events.Event.TheVariants as events
+use Rattle.group_model.specs.declared.events.GroupAnswer.{GroupAnswer}
+use Rattle.group_model.specs.declared.events.GroupAnswer.TheVariants as group_answers
+use Rattle.group_model.specs.Asking.{signature_asked}
+use Rattle.group_model.specs.Views.{host_no}
+use Rattle.host_server.specs.declared.answers.PortAnswer.{PortAnswer}
+use Rattle.host_server.specs.declared.answers.PortAnswer.TheVariants as port_answers
+use Rattle.iogr_reference.specs.Choices.{group_of_key}
+use Rattle.iogr_reference.specs.declared.references.Ior.{Ior}
+use Rattle.link_session.specs.Ports.{Port, linked}
+use Rattle.sys_faults.specs.declared.answers.Answer.{Answer}
+use Rattle.sys_faults.specs.declared.answers.Answer.TheVariants as answers
+use Rattle.script_groups.specs.Groups.{ScriptGroup, Placed, acted, group_numbered, knows_as_member, machine_of, turn}
+use Rattle.script_groups.specs.References.{ior_at}
+use Rattle.ft_world.specs.Hosts.{host_causes}
 use Rattle.ft_world.specs.Printed.{gives_of}
-use Rattle.ft_world.specs.World.{Cause, Placed, Turn, World, cause, first_cause, is_there, judged, placed, unless}
+use Rattle.ft_world.specs.Sending.{all_carried, sent_lines}
+use Rattle.script_world.specs.World.{World, host_clock, is_up, with_event, with_messages}
+use Rattle.ft_world.specs.Turns.{Effect, Turn, effect, first_cause, goes, says, unless}
 
 -- ---- the group that an object key names
 
-abbrev pub group_numbered : World → ℕ → Option (Placed Group)
-group_numbered w number = if number == 0 then None else option_map (placed (number - 1)) (slice_get w.groups (number - 1))
-
-abbrev pub group_by : World → Option GroupId → Option (Placed Group)
+abbrev pub group_by : World → Option GroupId → Option (Placed ScriptGroup)
 group_by w None = None
-group_by w (Some group) = group_numbered w group.0
+group_by w (Some group) = group_numbered w.groups group.0
 
-abbrev pub group_keyed : World → List ℕ → Option (Placed Group)
+abbrev pub group_keyed : World → List ℕ → Option (Placed ScriptGroup)
 group_keyed w key = group_by w (group_of_key key)
 
--- ---- what a host answers
+-- ---- what a group answers, as it goes over a link
 
--- a group's one view
-abbrev pub view_of : ℕ → View
-view_of host = record { version = record { 0 = 1 }; members = host ∷ []; primary = Some (record { 0 = host }) }
+-- there is no reference of a view that there isn't
+abbrev pub forward_by : Bool → Option Ior → PortAnswer
+forward_by perm None = port_answers.NoGroup
+forward_by perm (Some ior) = port_answers.Forward perm ior
 
--- the port of each host number up to this one
-unfoldable pub ports : ℕ → List ℕ
-ports host = map port_of (range_with_len 0 (host + 1))
+abbrev pub port_answer : ScriptGroup → Option Par → Answer → PortAnswer
+port_answer g gives (answers.Done outcome) = port_answers.Done outcome gives
+port_answer g gives (answers.System fault) = port_answers.System fault
+port_answer g gives (answers.Forward version) = forward_by false (ior_at g version.0)
+port_answer g gives (answers.ForwardPerm version) = forward_by true (ior_at g version.0)
 
--- the reference of the group at this place, at this host
-abbrev pub reference : ℕ → ℕ → Ior
-reference place host = reference_of (record { 0 = place + 1 }) (repository_id (codes "Account")) (view_of host) (ports host)
+-- ---- the world as a port
 
--- the answer of the group at this place, at this host
-abbrev pub port_answer : ℕ → ℕ → Option Signature → Answer → PortAnswer
-port_answer place host signature (answers.Done outcome) = port_answers.Done outcome (gives_of signature)
-port_answer place host signature (answers.System fault) = port_answers.System fault
-port_answer place host signature (answers.Forward version) = port_answers.Forward false (reference place host)
-port_answer place host signature (answers.ForwardPerm version) = port_answers.Forward true (reference place host)
+-- what is printed, and what the host says; the host is up, and doesn't stop
+pub record Asking : Type 0 where
+  pub effect : Effect
+  pub answer : PortAnswer
 
--- a reply is written exactly where bit 0 of the request's flags asks for one
-abbrev pub reply_lines : ℕ → ℕ → Order → PortAnswer → List ReportLine
-reply_lines id flags order answer =
-    if flags % 2 == 1 then reports.Bytes (written_message (reply_to id order answer) order) ∷ [] else []
+abbrev pub asking : Effect → PortAnswer → Asking
+asking e answer = record { effect = e; answer = answer }
 
--- ---- what a host does with a message
+-- these lines, messages and servant calls behind those so far
+abbrev pub further : Effect → World → List ReportLine → ℕ → Effect
+further e w lines calls = effect w (e.lines ++ lines) (e.calls + calls)
 
--- the world after it, the lines that are printed, and the servant calls
-pub record Linked : Type 0 where
-  pub world : World
-  pub lines : List ReportLine
-  pub calls : ℕ
+abbrev pub answered_by : Effect → World → ℕ → ScriptGroup → Option Par → ℕ → GroupAnswer → Asking
+answered_by e w host g gives calls (group_answers.Reply decision (Some answer) out) =
+    asking (further e (with_messages w (all_carried g.id out))
+    (reports.At (host_no host) g.name decision ∷ sent_lines (length w.messages + 1) g.name (host_no host) out) calls)
+    (port_answer g gives answer)
+answered_by e w host g gives calls other = asking (further e w [] calls) port_answers.NoGroup
 
-abbrev pub serving : World → List ReportLine → ℕ → Linked
-serving w lines calls = record { world = w; lines = lines; calls = calls }
+abbrev pub asked_event : World → ℕ → Asked → Event
+asked_event w host asked = events.Request (host_no host) (record { 0 = host_clock w host }) asked Never
 
-abbrev pub answered_at : World → ℕ → Placed Group → RequestMsg → Order → Option Signature → Served → Linked
-answered_at w host g r order signature served =
-    serving (record w { groups = slice_set w.groups g.place served.group })
-    (reports.At (record { 0 = host }) g.value.name served.decision
-    ∷ reply_lines r.id r.flags order (port_answer g.place g.value.host signature served.answer)) served.calls
+abbrev pub ask_group : Effect → ℕ → Asked → Option (Placed ScriptGroup) → Asking
+ask_group e host asked None = asking (further e e.world (reports.NoGroup (host_no host) ∷ []) 0) port_answers.NoGroup
+ask_group e host asked (Some g) =
+    let event = asked_event e.world host asked in
+    let t = turn g.value event in
+    answered_by e (with_event e.world g.place g.value event) host (acted g.value event)
+    (gives_of (signature_asked (machine_of g.value) asked.op)) t.calls t.answer
 
-abbrev pub asked_at : World → ℕ → Placed Group → RequestMsg → Order → Asked → Linked
-asked_at w host g r order asked =
-    answered_at w host g r order (signature_asked asked.op) (ask g.value host (slice_index w.hosts host) asked)
-
-abbrev pub request_turn : World → ℕ → RequestMsg → Order → Option (Placed Group) → Linked
-request_turn w host r order None =
-    serving w (reports.NoGroup (record { 0 = host }) ∷ reply_lines r.id r.flags order port_answers.NoGroup) 0
-request_turn w host r order (Some g) = asked_at w host g r order (asked_of r.contexts r.op r.body)
-
--- whether the host is a member of the group that the key names
-abbrev pub is_here : ℕ → Option (Placed Group) → Bool
+-- a host has the object where it is a member of the view that it knows
+abbrev pub is_here : ℕ → Option (Placed ScriptGroup) → Bool
 is_here host None = false
-is_here host (Some g) = g.value.host == host
+is_here host (Some g) = knows_as_member g.value host
 
-abbrev pub located : World → ℕ → Order → Bool → Linked
-located w id order here = serving w (reports.Bytes (written_message (locate_reply_to id here) order) ∷ []) 0
+abbrev pub written : Effect → List ℕ → Effect
+written e bytes = further e e.world (reports.Bytes bytes ∷ []) 0
 
--- a session has no other messages than requests, questions where an object is, and cancels
-abbrev pub message_turn : World → ℕ → Message → Order → Linked
-message_turn w host (messages.Request r) order = request_turn w host r order (group_keyed w r.key)
-message_turn w host (messages.Reply r) order = serving w [] 0
-message_turn w host (messages.Cancel id) order = serving w [] 0
-message_turn w host (messages.LocateRequest id key) order = located w id order (is_here host (group_keyed w key))
-message_turn w host (messages.LocateReply id status) order = serving w [] 0
-message_turn w host messages.CloseConnection order = serving w [] 0
-message_turn w host messages.MessageError order = serving w [] 0
-message_turn w host (messages.Fragment id rest) order = serving w [] 0
+abbrev pub pair_of : Asking → Effect × PortAnswer
+pair_of a = (a.effect, a.answer)
 
--- ---- the whole link
+abbrev pub world_port : ℕ → Port Effect
+world_port host = record {
+  ask = λ e key asked. pair_of (ask_group e host asked (group_keyed e.world key));
+  here = λ e key. is_here host (group_keyed e.world key);
+  write = written;
+}
 
--- a malformed link is answered by a MessageError, but for one that is cut off
-abbrev pub message_error : ReportLine
-message_error = reports.Bytes (written_message messages.MessageError Big)
+-- what is printed of the bytes that a host writes
+abbrev pub bytes_lines : Option (List ℕ) → List ReportLine
+bytes_lines None = []
+bytes_lines (Some bytes) = reports.Bytes bytes ∷ []
 
-abbrev pub is_cut : Why → Bool
-is_cut causes.Magic = false
-is_cut causes.Version = false
-is_cut causes.Flags = false
-is_cut causes.Kind = false
-is_cut causes.Length = false
-is_cut causes.Open = false
-is_cut causes.Cut = true
-is_cut causes.Short = false
-is_cut causes.BadBool = false
-is_cut causes.BadString = false
-is_cut causes.BadOrder = false
-is_cut causes.Address = false
-is_cut causes.Status = false
+-- ---- the line
 
-abbrev pub malformed_lines : Why → ℕ → List ReportLine
-malformed_lines why place =
-    if is_cut why then reports.LinkMalformed why place ∷ [] else message_error ∷ reports.LinkMalformed why place ∷ []
+abbrev pub end_line : StreamEnd → ReportLine
+end_line Closed = reports.LinkClosed
+end_line (Malformed why place) = reports.LinkMalformed why place
+end_line (TooLarge size) = reports.LinkTooLarge size
 
-abbrev pub end_lines : StreamEnd → List ReportLine
-end_lines Closed = reports.LinkClosed ∷ []
-end_lines (Malformed why place) = malformed_lines why place
-end_lines (TooLarge size) = message_error ∷ reports.LinkTooLarge size ∷ []
+abbrev pub with_end : StreamEnd → Effect → Effect
+with_end end e = further e e.world (end_line end ∷ []) 0
 
--- what comes of a link behind these lines and servant calls
-abbrev pub linked_behind : List ReportLine → ℕ → Linked → Linked
-linked_behind lines calls l = serving l.world (lines ++ l.lines) (calls + l.calls)
+abbrev pub link_of : World → ℕ → List ℕ → Effect
+link_of w host bytes = with_end (session bytes).end (linked (world_port host) (says w []) bytes)
 
-abbrev pub linked_on : Linked → (World → Linked) → Linked
-linked_on l rest = linked_behind l.lines l.calls (rest l.world)
-
--- the messages of a session, one after another
-unfoldable pub served_all : World → ℕ → List Received → Linked
-served_all w host [] = serving w [] 0
-served_all w host (m ∷ ms) = linked_on (message_turn w host m.0 m.1) (λ next. served_all next host ms)
-
-abbrev pub with_end : StreamEnd → Linked → Linked
-with_end end l = record l { lines = l.lines ++ end_lines end }
-
--- what comes of a link with these bytes: its session is served, and then its end is told
-abbrev pub link_of : World → ℕ → List ℕ → Linked
-link_of w host bytes = with_end (session bytes).end (served_all w host (session bytes).messages)
-
--- `inject H HEX`
-abbrev pub inject_causes : World → ℕ → List Cause
-inject_causes w host = cause (not (is_there w host)) Unknown ∷ []
-
-abbrev pub linked_turn : Linked → Turn
-linked_turn l = judged l.world l.lines l.calls
-
+-- a host that is down loses the link
 abbrev pub inject_line : World → ℕ → List ℕ → Turn
-inject_line w host bytes = unless (first_cause (inject_causes w host)) 0 (linked_turn (link_of w host bytes))
+inject_line w host bytes =
+    unless (first_cause (host_causes w host)) 0
+    (goes (if is_up w host then link_of w host bytes else says w (reports.LinkLost ∷ [])))

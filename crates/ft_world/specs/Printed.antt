@@ -1,4 +1,4 @@
--- An answer as it is printed.
+-- Answers as they are printed.
 use Rattle.std.specs.Prelude.{ℕ, List, Option, Some, None}
 use Rattle.ft_base.specs.declared.requests.Par.{Par}
 use Rattle.ft_base.specs.declared.requests.Outcome.{Outcome}
@@ -15,14 +15,14 @@ abbrev pub gives_of : Option Signature → Option Par
 gives_of None = None
 gives_of (Some signature) = signature.gives
 
--- an outcome as it is printed
-abbrev pub shown_outcome : Option Signature → Outcome → ReportOutcome
-shown_outcome signature (outcomes.Value value) = showns.Value (worth_in (gives_of signature) value)
-shown_outcome signature (outcomes.User name) = showns.User name
+-- an outcome, of an operation that gives this
+abbrev pub shown_outcome : Option Par → Outcome → ReportOutcome
+shown_outcome gives (outcomes.Value value) = showns.Value (worth_in gives value)
+shown_outcome gives (outcomes.User name) = showns.User name
 
--- a group's answer as it is printed, with the group's name where it turns the client to a reference
-abbrev pub shown : List ℕ → Option Signature → Answer → ReportOutcome
-shown group signature (answers.Done outcome) = shown_outcome signature outcome
-shown group signature (answers.System fault) = showns.System fault
-shown group signature (answers.Forward version) = showns.Forward group version
-shown group signature (answers.ForwardPerm version) = showns.ForwardPerm group version
+-- a group's answer, with the group's name where it turns the client to a reference
+abbrev pub shown : List ℕ → Option Par → Answer → ReportOutcome
+shown group gives (answers.Done outcome) = shown_outcome gives outcome
+shown group gives (answers.System fault) = showns.System fault
+shown group gives (answers.Forward version) = showns.Forward group version
+shown group gives (answers.ForwardPerm version) = showns.ForwardPerm group version

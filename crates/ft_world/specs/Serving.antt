@@ -1,87 +1,76 @@
 -- What the calls of a link answer.
-use Rattle.std.specs.Prelude.{◌≡◌, ℕ, ◌+◌, List, ◌++◌, slice_get, slice_set, Some, Result, Ok, Err}
-use Rattle.std.specs.List.{All}
+use Rattle.std.specs.Prelude.{◌≡◌, ℕ, ◌+◌, ◌≤◌, List, [], Option, Some, Result, Ok, Err}
+use Rattle.cdr_codec.specs.declared.orders.Order.{Order}
 use Rattle.ft_base.specs.declared.memory.NoMemory.{NoMemory}
+use Rattle.ft_report.specs.declared.reports.ReportLine.{ReportLine}
+use Rattle.giop_stream.specs.declared.sessions.StreamEnd.{StreamEnd}
+use Rattle.giop_stream.specs.Sessions.{session}
+use Rattle.host_server.specs.declared.answers.PortAnswer.{PortAnswer}
+use Rattle.ft_base.specs.declared.requests.Par.{Par}
+use Rattle.group_model.specs.declared.events.GroupAnswer.{GroupAnswer}
+use Rattle.group_model.specs.declared.events.GroupAnswer.TheVariants as group_answers
+use Rattle.host_server.specs.Replies.{CanGive, CanReply}
+use Rattle.script_groups.specs.Groups.{ScriptGroup}
+use Rattle.sys_faults.specs.Bodies.{OnUnknown}
 use Rattle.sys_faults.specs.declared.answers.Answer.{Answer}
 use Rattle.sys_faults.specs.declared.answers.Answer.TheVariants as answers
-use Rattle.sys_faults.specs.Bodies.{OnUnknown}
-use Rattle.host_server.specs.Replies.{IsShortId}
-use Rattle.ft_contexts.specs.Finding.{IsShort}
-use Rattle.giop_messages.specs.declared.messages.Message.{Message}
-use Rattle.giop_messages.specs.declared.messages.Message.TheVariants as messages
-use Rattle.giop_messages.specs.declared.messages.RequestMsg.{RequestMsg}
-use Rattle.giop_stream.specs.declared.sessions.StreamEnd.{StreamEnd}
-use Rattle.group_model.specs.declared.asking.Asked.{Asked}
-use Rattle.lone_group.specs.declared.groups.Served.{Served}
-use Rattle.lone_group.specs.Asked.{IsShortBody}
-use Rattle.lone_group.specs.Group.{Group, ask}
-use Rattle.lone_group.specs.Kept.{IsCountedWithin, IsServed}
-use Rattle.ft_report.specs.declared.reports.ReportLine.{ReportLine}
-use Rattle.ft_world.specs.World.{World}
-use Rattle.ft_world.specs.Links.{Linked, serving, end_lines}
+use Rattle.link_session.specs.Ports.{linked, ended}
+use Rattle.ft_world.specs.Links.{Asking, answered_by, asking, world_port}
+use Rattle.script_world.specs.World.{World}
+use Rattle.ft_world.specs.Turns.{Effect, effect, says}
 
--- the places inside a request's contexts and body fit an unsigned long
-pub record IsShortRequest (r : RequestMsg) : Type 0 where
-  pub contexts : All IsShort r.contexts
-  pub body : IsShortBody r.body
-
-abbrev pub IsShortMessage : Message → Type 0
-IsShortMessage (messages.Request r) = IsShortRequest r
-IsShortMessage (messages.Reply r) = Unit {0}
-IsShortMessage (messages.Cancel id) = Unit {0}
-IsShortMessage (messages.LocateRequest id key) = Unit {0}
-IsShortMessage (messages.LocateReply id status) = Unit {0}
-IsShortMessage messages.CloseConnection = Unit {0}
-IsShortMessage messages.MessageError = Unit {0}
-IsShortMessage (messages.Fragment id rest) = Unit {0}
-
--- a system exception has a name of its own
-abbrev pub HasName : Answer → Type 0
-HasName (answers.Done outcome) = Unit {0}
-HasName (answers.System fault) = OnUnknown fault.kind IsShortId
-HasName (answers.Forward version) = Unit {0}
-HasName (answers.ForwardPerm version) = Unit {0}
-
--- a message was asked of the group at a place: the group answered as the plain group does, and all else stayed
-pub record IsAskedAt (place host clock : ℕ) (asked : Asked) (old : World) (served : Served) (new : World) (before later : ℕ) : Type 0 where
-  pub group : Group
-  pub next : Group
-  pub was : slice_get old.groups place ≡ Some group
-  pub left : new ≡ record old { groups = slice_set old.groups place next }
-  pub is : IsServed (ask group host clock asked) served next before later
-
-abbrev pub AskFailsAt : ℕ → ℕ → ℕ → Asked → World → ℕ → ℕ → Type 0
-AskFailsAt place host clock asked old before later =
-    (group : Group) → slice_get old.groups place ≡ Some group → IsCountedWithin (ask group host clock asked).calls before later
-
--- a message was served: its lines were added to the report, and its servant calls counted
-pub record IsServing (turn : Linked) (new : World) (report later_report : List ReportLine) (before later : ℕ) : Type 0 where
-  pub lines : List ReportLine
+-- a change of the effects so far: the world is another, lines are added, and servant calls are counted
+pub record IsChange (change : Effect → Effect) (old new : World) (report later : List ReportLine) (before now : ℕ) : Type 0 where
   pub calls : ℕ
-  pub is : turn ≡ serving new lines calls
-  pub printed : later_report ≡ report ++ lines
-  pub counted : later ≡ before + calls
+  pub is : (so_far : ℕ) → change (effect old report so_far) ≡ effect new later (so_far + calls)
+  pub counted : now ≡ before + calls
 
-abbrev pub Serving : Linked → Result (Unit {0}) NoMemory → World → List ReportLine → List ReportLine → ℕ → ℕ → Type 0
-Serving turn (Ok u) new report later_report before later = IsServing turn new report later_report before later
-Serving turn (Err e) new report later_report before later = IsCountedWithin turn.calls before later
+-- no more servant calls than it makes, whatever was called before
+abbrev pub IsWithin : (Effect → Effect) → World → List ReportLine → ℕ → ℕ → Type 0
+IsWithin change old report before now = (so_far : ℕ) → so_far + now ≤ before + (change (effect old report so_far)).calls
 
--- a link went so, but for the lines of its end
-pub record IsEnded (l : Linked) (end : StreamEnd) (new : World) (report : List ReportLine) (before later : ℕ) : Type 0 where
-  pub world : l.world ≡ new
-  pub lines : l.lines ≡ report ++ end_lines end
-  pub counted : later ≡ before + l.calls
+abbrev pub Changes : (Effect → Effect) → Result (Unit {0}) NoMemory → World → World → List ReportLine → List ReportLine → ℕ → ℕ → Type 0
+Changes change (Ok u) old new report later before now = IsChange change old new report later before now
+Changes change (Err why) old new report later before now = IsWithin change old report before now
 
-abbrev pub Ended : Linked → Result StreamEnd NoMemory → World → List ReportLine → ℕ → ℕ → Type 0
-Ended l (Ok end) new report before later = IsEnded l end new report before later
-Ended l (Err e) new report before later = IsCountedWithin l.calls before later
+-- the same where there is an answer
+pub record IsAsked (ask : Effect → Asking) (answer : PortAnswer) (old new : World) (report later : List ReportLine) (before now : ℕ) : Type 0 where
+  pub calls : ℕ
+  pub is : (so_far : ℕ) → ask (effect old report so_far) ≡ asking (effect new later (so_far + calls)) answer
+  pub counted : now ≡ before + calls
+  pub can : (order : Order) → CanReply order answer
 
--- a link went so
-pub record IsLinked (l : Linked) (new : World) (report : List ReportLine) (before later : ℕ) : Type 0 where
-  pub world : l.world ≡ new
-  pub lines : l.lines ≡ report
-  pub counted : later ≡ before + l.calls
+abbrev pub Asks : (Effect → Asking) → Result PortAnswer NoMemory → World → World → List ReportLine → List ReportLine → ℕ → ℕ → Type 0
+Asks ask (Ok answer) old new report later before now = IsAsked ask answer old new report later before now
+Asks ask (Err why) old new report later before now = (so_far : ℕ) → so_far + now ≤ before + (ask (effect old report so_far)).effect.calls
 
-abbrev pub Links : Linked → Result (List ReportLine) NoMemory → World → ℕ → ℕ → Type 0
-Links l (Ok report) new before later = IsLinked l new report before later
-Links l (Err e) new before later = IsCountedWithin l.calls before later
+-- a link was served up to its end, which is owed an answer still
+pub record IsServed (w : World) (host : ℕ) (bytes : List ℕ) (end : StreamEnd) (new : World) (report : List ReportLine) (before now : ℕ) : Type 0 where
+  pub calls : ℕ
+  pub over : (session bytes).end ≡ end
+  pub is : linked (world_port host) (says w []) bytes ≡ ended (world_port host) (effect new report calls) end
+  pub counted : now ≡ before + calls
+
+abbrev pub Served : World → ℕ → List ℕ → Result StreamEnd NoMemory → World → List ReportLine → ℕ → ℕ → Type 0
+Served w host bytes (Ok end) new report before now = IsServed w host bytes end new report before now
+Served w host bytes (Err why) new report before now = now ≤ before + (linked (world_port host) (says w []) bytes).calls
+
+-- ---- what is owed by what a group answers
+
+-- an answer can be written, if it has a reference where it redirects
+abbrev pub IsInForm : Option Par → Answer → Type 0
+IsInForm gives (answers.Done outcome) = CanGive gives outcome
+IsInForm gives (answers.System fault) = OnUnknown fault.kind (λ id. ⊥)
+IsInForm gives (answers.Forward version) = Unit {0}
+IsInForm gives (answers.ForwardPerm version) = Unit {0}
+
+abbrev pub AreInForm : Option Par → GroupAnswer → Type 0
+AreInForm gives (group_answers.Reply decision (Some answer) out) = IsInForm gives answer
+AreInForm gives other = Unit {0}
+
+-- a group that has had the event answers so; the lines are added, and what it sends is on its way
+abbrev pub AnsweredBy : ScriptGroup → ℕ → Option Par → GroupAnswer → Result PortAnswer NoMemory → World → World → List ReportLine → List ReportLine → Type 0
+AnsweredBy g host gives answer (Ok port) old new report later =
+    ((so_far calls : ℕ) → answered_by (effect old report so_far) old host g gives calls answer ≡ asking (effect new later (so_far + calls)) port)
+    × ((order : Order) → CanReply order port)
+AnsweredBy g host gives answer (Err why) old new report later = Unit {0}

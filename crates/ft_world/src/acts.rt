@@ -1,174 +1,103 @@
-ghost use Rattle.std.specs.Prelude.{◌≡◌, ℕ, ◌+◌, ◌<◌, ◌≤◌, ◌^◌, [], ◌∷◌, IfOk, OnOk, Some, slice_get};
-ghost use Rattle.lone_group.specs.Group.{Group};
-ghost use Rattle.ft_world.specs.World.{World, client_line, group_line, hosts_line, show_line, shown_group, tick_line};
-ghost use Rattle.ft_world.specs.Acts.{act};
-ghost use Rattle.ft_world.specs.Sound.{Answered, Did};
+ghost use Rattle.std.specs.Prelude.{◌≡◌, ℕ, ◌+◌, ◌≤◌, ◌^◌, OnOk};
+ghost use Rattle.ft_world.specs.Acts.{act, act_first};
+ghost use Rattle.ft_world.specs.Answers.{Acts, Did, IfRefused};
+ghost use Rattle.ft_world.specs.Lines.{IsTimely};
+ghost use Rattle.script_world.specs.Sound.{HasActed, IsKeptWorld};
+ghost use Rattle.ft_world.specs.Turns.{first_cause, total_causes, totals_of};
 
-use crate::clients::Client;
-use crate::limits::{CLIENT_LIMIT, GROUP_LIMIT};
-use crate::worlds::World;
+use crate::calls::call_line;
+use crate::deliveries::deliver_line;
+use crate::hosts::{change_line, crash_line, restart_line, show_line};
+use crate::links::inject_line;
+use crate::making::{client_line, group_line, hosts_line, tick_line};
 use fault_script::{LimitName, Line, LineFault};
-use ft_base::{GroupId, HOST_LIMIT, HostNo, Members, Name, NoMemory, Steps, Version};
-use ft_report::{ReportLine, ReportLines, Role, Standing};
-use lone_group::Group;
-use std::alloc::Global;
+use ft_base::Steps;
+use ft_report::ReportLines;
+use script_world::{ENTRY_LIMIT, MESSAGE_LIMIT, World};
 use std::sync::ledger::Ledger;
 
-// So far a group's one view is its first.
-const FIRST: Version = Version(1);
-
-// What is printed where a group is made.
-fn made_report(
-    alloc: Global,
-    id: GroupId,
-    name: &Name,
-    host: HostNo,
-) -> Result<ReportLines, NoMemory>
-    ensures { IfOk result (λ report. report ≡
-        ReportLine.Group name.now id
-        ∷ ReportLine.View name.now FIRST (host.0 ∷ []) (Some host) ∷ []) }
+// Time goes on by a number of 32 bits.
+fn is_timely(line: &Line)
+    ensures { IsTimely line.now }
 {
-    let mut report = ReportLines::new(alloc);
-    let mut members = Members::new();
-    members.join(host);
-    let made = name.copy(alloc)?;
-    report.push(ReportLine::Group { name: made, id })?;
-    let group = name.copy(alloc)?;
-    report.push(ReportLine::View {
-        group,
-        version: FIRST,
-        members,
-        primary: Some(host),
-    })?;
-    Ok(report)
+    if let Line::Tick(ticks) = line {
+        let _ticks = *ticks;
+    }
 }
 
-// What `show` prints of a group.
-fn shown_report(alloc: Global, group: &Group) -> Result<ReportLines, NoMemory>
-    ensures { IfOk result (λ report. report ≡ shown_group group.now) }
+// What a line does, before its totals are judged.
+fn act_first<L: Ledger>(
+    world: &mut World,
+    line: Line,
+    steps: &mut Steps<L>,
+) -> Result<ReportLines, LineFault>
+    requires kept { IsKeptWorld world.old }
+    requires acted { (lines : ℕ) × (lines ≤ 2 ^ 27) × HasActed world.old lines }
+    ensures did { Acts (act_first world.old line) result world.old world.new steps.old steps.new }
 {
-    let mut report = ReportLines::new(alloc);
-    let name = group.name().copy(alloc)?;
-    report.push(ReportLine::Show {
-        group: name,
-        version: FIRST,
-        entries: group.entries(),
-        mark: 0,
-        time: group.time(),
-    })?;
-    let state = group.state(alloc)?;
-    report.push(ReportLine::Member {
-        host: group.host(),
-        role: Role::Primary,
-        standing: Standing::At {
-            known: FIRST,
-            position: group.position(),
-            state,
+    match line {
+        Line::Hosts(count) => hosts_line(world, count),
+        Line::Group {
+            name,
+            kind,
+            style,
+            members,
+        } => group_line(world, name, kind, style, &members, steps),
+        Line::Client(name) => client_line(world, name),
+        Line::Call {
+            client,
+            group,
+            op,
+            words,
+        } => call_line(world, &client, &group, op, &words),
+        Line::Deliver { number, stop } => deliver_line(world, number, stop, steps),
+        Line::Tick(ticks) => tick_line(world, ticks),
+        Line::Show(name) => show_line(world, &name),
+        Line::Inject { host, bytes } => inject_line(world, host, &bytes, steps),
+        Line::Change {
+            change,
+            group,
+            host,
+        } => change_line(world, change, &group, host, steps),
+        Line::Crash(host) => crash_line(world, host, steps),
+        Line::Restart(host) => restart_line(world, host, steps),
+    }
+}
+
+// The first total that is too great.
+fn refuses(world: &World) -> Option<LineFault>
+    requires { IsKeptWorld world.now }
+    ensures { result ≡ first_cause (total_causes (totals_of world.now)) }
+{
+    if world.entries() > ENTRY_LIMIT {
+        return Some(LineFault::Limit(LimitName::Entries));
+    }
+    if world.message_count() > MESSAGE_LIMIT {
+        return Some(LineFault::Limit(LimitName::Messages));
+    }
+    None
+}
+
+/// What a line of a script does. A refused line changes nothing; but after a total that is too great, and
+/// after want of memory, nothing is said of what the world holds.
+pub fn act<L: Ledger>(
+    world: &mut World,
+    line: Line,
+    steps: &mut Steps<L>,
+) -> Result<ReportLines, LineFault>
+    requires kept { IsKeptWorld world.old }
+    requires acted { (lines : ℕ) × (lines ≤ 2 ^ 27) × HasActed world.old lines }
+    ensures did { Did (act world.old line) result world.new steps.old steps.new }
+    ensures unchanged { IfRefused result (world.new ≡ world.old) }
+    ensures kept { OnOk result (IsKeptWorld world.new) }
+    ensures acted { OnOk result ((lines : ℕ) → HasActed world.old lines → HasActed world.new (lines + 1)) }
+{
+    is_timely(&line);
+    match act_first(world, line, steps) {
+        Ok(report) => match refuses(world) {
+            Some(why) => Err(why),
+            None => Ok(report),
         },
-    })?;
-    Ok(report)
-}
-
-impl World {
-    /// `hosts N`
-    pub(crate) fn hosts_line(&mut self, count: u64) -> Result<ReportLines, LineFault>
-        ensures answer { Answered (hosts_line self.old count) result self.new }
-        ensures clock { OnOk result (self.new.clock ≡ self.old.clock) }
-    {
-        if self.has_hosts() {
-            return Err(LineFault::Again);
-        }
-        if count > HOST_LIMIT as u64 {
-            return Err(LineFault::Limit(LimitName::Hosts));
-        }
-        self.make_hosts(count as u8)?;
-        Ok(ReportLines::new(self.alloc()))
-    }
-
-    /// `group G account cold H`
-    pub(crate) fn group_line(&mut self, name: Name, member: u64) -> Result<ReportLines, LineFault>
-        ensures answer { Answered (group_line self.old name member) result self.new }
-        ensures clock { OnOk result (self.new.clock ≡ self.old.clock) }
-    {
-        let host = match self.host(member) {
-            Some(host) => host,
-            None => return Err(LineFault::Unknown),
-        };
-        if self.is_named(&name) {
-            return Err(LineFault::Again);
-        }
-        let made = self.group_count();
-        if made >= GROUP_LIMIT {
-            return Err(LineFault::Limit(LimitName::Groups));
-        }
-        let report = made_report(self.alloc(), GroupId(made as u64 + 1), &name, host)?;
-        self.add_group(Group::new(self.alloc(), name, host))?;
-        Ok(report)
-    }
-
-    /// `client C`
-    pub(crate) fn client_line(&mut self, name: Name) -> Result<ReportLines, LineFault>
-        ensures answer { Answered (client_line self.old name) result self.new }
-        ensures clock { OnOk result (self.new.clock ≡ self.old.clock) }
-    {
-        if self.is_named(&name) {
-            return Err(LineFault::Again);
-        }
-        if self.client_count() >= CLIENT_LIMIT {
-            return Err(LineFault::Limit(LimitName::Clients));
-        }
-        self.add_client(Client::new(name))?;
-        Ok(ReportLines::new(self.alloc()))
-    }
-
-    /// `tick N`
-    pub(crate) fn tick_line(&mut self, ticks: u32) -> Result<ReportLines, LineFault>
-        requires { self.old.clock ≤ 2 ^ 63 }
-        ensures answer { Answered (tick_line self.old ticks) result self.new }
-        ensures clock { self.new.clock ≡ self.old.clock + ticks }
-    {
-        self.pass(ticks);
-        Ok(ReportLines::new(self.alloc()))
-    }
-
-    /// `show G`
-    pub(crate) fn show_line(&mut self, name: &Name) -> Result<ReportLines, LineFault>
-        ensures answer { Answered (show_line self.old name.now) result self.new }
-        ensures world { self.new ≡ self.old }
-    {
-        let place = match self.group_place(name) {
-            Some(place) => place,
-            None => return Err(LineFault::Unknown),
-        };
-        let report = shown_report(self.alloc(), self.group(place))?;
-        Ok(report)
-    }
-
-    /// What a line of a script does. At a refusal that comes after the line's work, as that of a total,
-    /// and at want of memory, nothing is said of what the world holds.
-    pub fn act<L: Ledger>(
-        &mut self,
-        line: Line,
-        steps: &mut Steps<L>,
-    ) -> Result<ReportLines, LineFault>
-        requires { self.old.clock ≤ 2 ^ 63 }
-        ensures did { Did (act self.old line) result self.new steps.old steps.new }
-        ensures clock { OnOk result (self.new.clock ≤ self.old.clock + 2 ^ 32) }
-    {
-        match line {
-            Line::Hosts(count) => self.hosts_line(count),
-            Line::Group { name, member } => self.group_line(name, member),
-            Line::Client(name) => self.client_line(name),
-            Line::Call {
-                client,
-                group,
-                op,
-                words,
-            } => self.call_line(&client, &group, op, &words),
-            Line::Deliver(number) => self.deliver_line(number, steps),
-            Line::Tick(ticks) => self.tick_line(ticks),
-            Line::Show(name) => self.show_line(&name),
-            Line::Inject { host, bytes } => self.inject_line(host, &bytes, steps),
-        }
+        Err(why) => Err(why),
     }
 }

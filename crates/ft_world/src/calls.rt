@@ -1,209 +1,265 @@
-ghost use Rattle.std.specs.Prelude.{◌≡◌, ℕ, ◌+◌, ◌<◌, ◌≤◌, ◌^◌, [], ◌∷◌, IfOk, OnOk, Some, length, slice_get};
-ghost use Rattle.ft_base.specs.declared.requests.Key.{Key};
-ghost use Rattle.lone_group.specs.Servant.{machine};
-ghost use Rattle.lone_group.specs.Group.{Group, MayServe};
-ghost use Rattle.ft_world.specs.World.{World, attempt_of, call_by, call_from, call_line, client_named, expiration_of, first_cause, key_of, numbered_after, placed, retention_of, started, total_causes, totals_of, version_of};
-ghost use Rattle.ft_world.specs.Sound.{Answered, HasSent};
-ghost use Rattle.ft_world.specs.declared.clients.Client.{Client};
+//! What clients do, and `call`.
+ghost use Rattle.std.specs.Prelude.{◌≡◌, ℕ, ◌+◌, ◌<◌, ◌≤◌, ◌^◌, ◌++◌, None, IfOk, OnOk, Some, length, slice_get, unwrap_or};
+ghost use Rattle.std.specs.List.{All};
+ghost use Rattle.script_clients.specs.Clients.{Client, taking};
+ghost use Rattle.script_groups.specs.Groups.{ScriptGroup as Group, group_numbered, placed};
+ghost use Rattle.script_groups.specs.References.{newest_reference};
+ghost use Rattle.script_world.specs.Sound.{IsKeptWorld};
+ghost use Rattle.script_world.specs.World.{client_named, with_client};
+ghost use Rattle.script_world.specs.Worlds.{CanStart};
+ghost use Rattle.ft_world.specs.Answers.{Acts, Does};
+ghost use Rattle.ft_world.specs.Clients.{adopted_lines, attempts, call_from, call_line, does, expiration_of, key_of, retention_of, started};
 
-use crate::clients::Client;
-use crate::limits::{DEFAULT_LIFE, ENTRY_LIMIT, MESSAGE_LIMIT};
-use crate::messages::{Attempt, Message};
-use crate::worlds::World;
-use fault_script::{CallWords, LimitName, LineFault, Words, call_words};
-use ft_base::{HostNo, Key, Name, NoMemory, Request, Retention, Tick, Version};
+use crate::hosts::one_line;
+use crate::printing::shown_end;
+use fault_script::{CallWords, LineFault, Words, call_words};
+use ft_base::{GroupId, Key, Name, NoMemory, Par, Request, Retention, Tick, Version};
 use ft_report::{ReportLine, ReportLines};
-use std::alloc::Global;
+use group_references::host_at;
+use iogr_reference::GroupRef;
+use script_clients::{Attempt, ScriptClient, Told};
+use script_world::{Begun, DEFAULT_LIFE, Message, World};
 
-fn retention_of(client: &Client, retention: Option<Retention>) -> Retention
-    requires { client.now.numbered + 1 < 2 ^ 31 }
+fn retention_of(client: &ScriptClient, retention: Option<Retention>) -> Retention
+    requires { CanStart client.now }
     ensures { result ≡ retention_of client.now retention }
 {
     match retention {
-        None => Retention((client.numbered + 1) as i32),
+        None => Retention((client.numbered() + 1) as i32),
         Some(retention) => retention,
     }
 }
 
-fn numbered_after(client: &Client, retention: Option<Retention>) -> u32
-    requires { client.now.numbered + 1 < 2 ^ 31 }
-    ensures { result ≡ numbered_after client.now retention }
+fn expiration_of(world: &World, expiration: Option<Tick>) -> Tick
+    requires { world.now.clock ≤ 2 ^ 63 }
+    ensures { result ≡ expiration_of world.now expiration }
 {
-    match retention {
-        None => client.numbered + 1,
-        Some(_) => client.numbered,
+    match expiration {
+        None => Tick(world.clock().0 + DEFAULT_LIFE),
+        Some(expiration) => expiration,
     }
 }
 
-fn version_of(versioned: bool) -> Option<Version>
-    ensures { result ≡ version_of versioned }
+// An attempt goes out, if a host listens at its port.
+fn push_attempt(
+    world: &mut World,
+    client: usize,
+    name: &Name,
+    attempt: Attempt,
+    report: &mut ReportLines,
+) -> Result<(), NoMemory>
+    ensures world { OnOk result (world.new ≡ (attempts world.old client name.now attempt).world) }
+    ensures report { OnOk result (report.new ≡ report.old ++ (attempts world.old client name.now attempt).lines) }
 {
-    if versioned { Some(Version(1)) } else { None }
-}
-
-fn attempt_report(
-    alloc: Global,
-    message: u64,
-    client: &Name,
-    host: HostNo,
-    id: u32,
-) -> Result<ReportLines, NoMemory>
-    ensures { IfOk result (λ report. report ≡ ReportLine.Attempt message client.now host id ∷ []) }
-{
-    let mut report = ReportLines::new(alloc);
-    let client = client.copy(alloc)?;
+    let Some(host) = host_at(attempt.port) else {
+        return Ok(());
+    };
+    let message = world.message_count() as u64 + 1;
+    let name = name.copy(world.alloc())?;
     report.push(ReportLine::Attempt {
         message,
+        client: name,
+        host,
+        id: attempt.id,
+    })?;
+    world.send(Message::Request {
         client,
         host,
-        id,
-    })?;
-    Ok(report)
+        attempt,
+    })
 }
 
-fn busy_report(alloc: Global, client: &Name) -> Result<ReportLines, NoMemory>
-    ensures { IfOk result (λ report. report ≡ ReportLine.Busy client.now ∷ []) }
+// A client goes on over a newer reference.
+fn push_adopted(
+    world: &World,
+    name: &Name,
+    group: GroupId,
+    version: Version,
+    report: &mut ReportLines,
+) -> Result<(), NoMemory>
+    ensures { OnOk result (report.new ≡ report.old ++ adopted_lines name.now version (group_numbered world.now.groups group.0)) }
 {
-    let mut report = ReportLines::new(alloc);
-    let client = client.copy(alloc)?;
-    report.push(ReportLine::Busy { client })?;
-    Ok(report)
+    let Some(place) = world.numbered_place(group) else {
+        return Ok(());
+    };
+    let client = name.copy(world.alloc())?;
+    let group = world.group(place).name().copy(world.alloc())?;
+    report.push(ReportLine::Adopted {
+        client,
+        group,
+        version,
+    })
 }
 
-impl World {
-    fn expiration_of(&self, expiration: Option<Tick>) -> Tick
-        requires { self.now.clock ≤ 2 ^ 63 }
-        ensures { result ≡ expiration_of self.now expiration }
-    {
-        match expiration {
-            None => Tick(self.clock().0 + DEFAULT_LIFE),
-            Some(expiration) => expiration,
+/// What a client does; it waits for the outcome of an operation that gives this. The report has what is
+/// printed where it does nothing.
+pub(crate) fn does(
+    world: &mut World,
+    client: usize,
+    name: &Name,
+    gives: Option<Par>,
+    idle: ReportLines,
+    told: Told,
+) -> Result<ReportLines, NoMemory>
+    ensures { (calls : ℕ) → Does (does world.old client name.now gives idle told) result world.new calls calls }
+{
+    let alloc = world.alloc();
+    let mut report = ReportLines::new(alloc);
+    match told {
+        Told::Attempt(attempt) => {
+            push_attempt(world, client, name, attempt, &mut report)?;
+            Ok(report)
         }
-    }
-
-    /// The first total that one more message makes too great.
-    pub(crate) fn refuses_more(&self) -> Option<LineFault>
-        ensures { result ≡ first_cause (total_causes (record {
-          entries = (totals_of self.now).entries;
-          messages = length self.now.messages + 1;
-          bytes = 0;
-          faults = 0;
-        })) }
-    {
-        if self.entries() > ENTRY_LIMIT {
-            return Some(LineFault::Limit(LimitName::Entries));
-        }
-        if self.message_count() >= MESSAGE_LIMIT {
-            return Some(LineFault::Limit(LimitName::Messages));
-        }
-        None
-    }
-
-    // The key of a client's next request.
-    fn key_of(&self, client: &Client, said: &CallWords) -> Result<Key, NoMemory>
-        requires clock { self.now.clock ≤ 2 ^ 63 }
-        requires numbered { client.now.numbered + 1 < 2 ^ 31 }
-        ensures { IfOk result (λ key. key ≡ key_of self.now client.now said.now) }
-    {
-        let name = client.name.copy(self.alloc())?;
-        Ok(Key {
-            client: name,
-            retention: retention_of(client, said.retention),
-            expiration: self.expiration_of(said.expiration),
-        })
-    }
-
-    // A client's call goes out.
-    fn start(
-        &mut self,
-        client: usize,
-        group: usize,
-        op: Name,
-        said: CallWords,
-    ) -> Result<ReportLines, LineFault>
-        requires client { client < length self.old.clients }
-        requires group { group < length self.old.groups }
-        requires clock { self.old.clock ≤ 2 ^ 63 }
-        requires may { MayServe (machine.signature op) said.args }
-        ensures answer { (c : Client) (g : Group) → slice_get self.old.clients client ≡ Some c → slice_get self.old.groups group ≡ Some g →
-            Answered (started self.old (placed client c) (placed group g) op said) result self.new }
-        ensures clock { OnOk result (self.new.clock ≡ self.old.clock) }
-    {
-        let alloc = self.alloc();
-        let host = self.group(group).host();
-        let number = self.message_count() as u64 + 1;
-        let sender = self.client(client);
-        let id = sender.started + 1;
-        let numbered = numbered_after(sender, said.retention);
-        let key = self.key_of(sender, &said)?;
-        let report = attempt_report(alloc, number, &sender.name, host, id)?;
-        if let Some(why) = self.refuses_more() {
-            return Err(why);
-        }
-        let attempt = Attempt {
-            client,
+        Told::Adopted {
             group,
-            host,
-            id,
-            version: version_of(said.versioned),
-            request: Request {
-                key: Some(key),
-                op,
-                args: said.args,
-            },
-        };
-        self.send(Message::Attempt(attempt))?;
-        self.open_call(client, numbered);
-        Ok(report)
-    }
-
-    // The words after the operation were read: a client with an open call is busy.
-    fn call_from(
-        &mut self,
-        client: &Name,
-        group: usize,
-        op: Name,
-        said: CallWords,
-    ) -> Result<ReportLines, LineFault>
-        requires group { group < length self.old.groups }
-        requires clock { self.old.clock ≤ 2 ^ 63 }
-        requires may { MayServe (machine.signature op) said.args }
-        ensures answer { (g : Group) → slice_get self.old.groups group ≡ Some g →
-            Answered (call_from self.old (client_named self.old client.now) (placed group g) op said) result self.new }
-        ensures clock { OnOk result (self.new.clock ≡ self.old.clock) }
-    {
-        let place = match self.client_place(client) {
-            Some(place) => place,
-            None => return Err(LineFault::Unknown),
-        };
-        let sender = self.client(place);
-        if sender.waiting.is_some() {
-            let report = busy_report(self.alloc(), &sender.name)?;
-            return Ok(report);
+            version,
+            attempt,
+        } => {
+            push_adopted(world, name, group, version, &mut report)?;
+            push_attempt(world, client, name, attempt, &mut report)?;
+            Ok(report)
         }
-        self.start(place, group, op, said)
-    }
-
-    /// `call C G OP ARG.. OPTION..`
-    pub(crate) fn call_line(
-        &mut self,
-        client: &Name,
-        group: &Name,
-        op: Name,
-        words: &Words,
-    ) -> Result<ReportLines, LineFault>
-        requires { self.old.clock ≤ 2 ^ 63 }
-        ensures answer { Answered (call_line self.old client.now group.now op words.now) result self.new }
-        ensures clock { OnOk result (self.new.clock ≡ self.old.clock) }
-    {
-        let place = match self.group_place(group) {
-            Some(place) => place,
-            None => return Err(LineFault::Unknown),
-        };
-        let signature = self.group(place).signature(&op);
-        match call_words(self.alloc(), signature, words) {
-            Ok(said) => self.call_from(client, place, op, said),
-            Err(why) => Err(why),
+        Told::Ended { number, end } => {
+            let end = shown_end(alloc, gives, end)?;
+            let client = name.copy(alloc)?;
+            one_line(
+                alloc,
+                ReportLine::Done {
+                    client,
+                    call: number,
+                    end,
+                },
+            )
         }
+        Told::Nothing => Ok(idle),
+    }
+}
+
+// The key of a client's next request.
+fn key_of(world: &World, client: &ScriptClient, said: &CallWords) -> Result<Key, NoMemory>
+    requires clock { world.now.clock ≤ 2 ^ 63 }
+    requires few { CanStart client.now }
+    ensures { IfOk result (λ key. key ≡ key_of world.now client.now said.now) }
+{
+    let name = client.name().copy(world.alloc())?;
+    Ok(Key {
+        client: name,
+        retention: retention_of(client, said.retention),
+        expiration: expiration_of(world, said.expiration),
+    })
+}
+
+// The reference over which a client calls a group: its own, or the group's newest.
+fn reference_for(world: &mut World, client: usize, group: usize) -> Result<GroupRef, NoMemory>
+    requires client { client < length world.old.clients }
+    requires group { group < length world.old.groups }
+    requires idle { (c : Client) → slice_get world.old.clients client ≡ Some c → c.call ≡ None }
+    requires kept { IsKeptWorld world.old }
+    ensures { (c : Client) (g : Group) → slice_get world.old.clients client ≡ Some c → slice_get world.old.groups group ≡ Some g →
+        IfOk result (λ reference. (reference ≡ unwrap_or (taking c g.id).reference (newest_reference g))
+        × (world.new ≡ with_client world.old client (taking c g.id).client)) }
+{
+    let id = world.group(group).id();
+    match world.take_reference(client, id)? {
+        Some(reference) => Ok(reference),
+        None => world
+            .group(group)
+            .newest_reference(world.alloc(), world.ports()),
+    }
+}
+
+// A client's call goes out.
+fn start(
+    world: &mut World,
+    client: usize,
+    group: usize,
+    op: Name,
+    said: CallWords,
+) -> Result<ReportLines, NoMemory>
+    requires client { client < length world.old.clients }
+    requires group { group < length world.old.groups }
+    requires idle { (c : Client) → slice_get world.old.clients client ≡ Some c → (c.call ≡ None) × CanStart c }
+    requires clock { world.old.clock ≤ 2 ^ 63 }
+    requires kept { IsKeptWorld world.old }
+    ensures { (c : Client) (g : Group) (calls : ℕ) → slice_get world.old.clients client ≡ Some c → slice_get world.old.groups group ≡ Some g →
+        Does (started world.old (placed client c) g op said) result world.new calls calls }
+{
+    let alloc = world.alloc();
+    let expiration = expiration_of(world, said.expiration);
+    let key = key_of(world, world.client_at(client), &said)?;
+    let name = world.client_at(client).name().copy(alloc)?;
+    let CallWords {
+        args,
+        retention,
+        expiration: _,
+        versioned,
+    } = said;
+    let reference = reference_for(world, client, group)?;
+    let begun = Begun {
+        reference,
+        expiration,
+        numbers: retention.is_none(),
+        versioned,
+        request: Request {
+            key: Some(key),
+            op,
+            args,
+        },
+    };
+    let told = world.start_at(client, begun)?;
+    does(world, client, &name, None, ReportLines::new(alloc), told)
+}
+
+// The words after the operation were read: a client with an open call is busy.
+fn call_from(
+    world: &mut World,
+    client: &Name,
+    group: usize,
+    op: Name,
+    said: CallWords,
+) -> Result<ReportLines, LineFault>
+    requires group { group < length world.old.groups }
+    requires clock { world.old.clock ≤ 2 ^ 63 }
+    requires few { All CanStart world.old.clients }
+    requires kept { IsKeptWorld world.old }
+    ensures { (g : Group) (calls : ℕ) → slice_get world.old.groups group ≡ Some g →
+        Acts (call_from world.old (client_named world.old client.now) g op said) result world.old world.new calls calls }
+{
+    let place = match world.client_place(client) {
+        Some(place) => place,
+        None => return Err(LineFault::Unknown),
+    };
+    if world.is_busy(place) {
+        let client = client.copy(world.alloc())?;
+        let report = one_line(world.alloc(), ReportLine::Busy { client })?;
+        return Ok(report);
+    }
+    match start(world, place, group, op, said) {
+        Ok(report) => Ok(report),
+        Err(NoMemory) => Err(LineFault::NoMemory),
+    }
+}
+
+/// `call C G OP ARG.. OPTION..`
+pub(crate) fn call_line(
+    world: &mut World,
+    client: &Name,
+    group: &Name,
+    op: Name,
+    words: &Words,
+) -> Result<ReportLines, LineFault>
+    requires clock { world.old.clock ≤ 2 ^ 63 }
+    requires few { All CanStart world.old.clients }
+    requires kept { IsKeptWorld world.old }
+    ensures { (calls : ℕ) → Acts (call_line world.old client.now group.now op words.now) result world.old world.new calls calls }
+{
+    let place = match world.group_place(group) {
+        Some(place) => place,
+        None => return Err(LineFault::Unknown),
+    };
+    let signature = world.group(place).signature(&op);
+    match call_words(world.alloc(), signature, words) {
+        Ok(said) => call_from(world, client, place, op, said),
+        Err(why) => Err(why),
     }
 }

@@ -1,247 +1,487 @@
-ghost use Rattle.std.specs.Prelude.{◌≡◌, ℕ, ◌+◌, ◌<◌, ◌≤◌, ◌^◌, ◌++◌, [], ◌∷◌, IfOk, OnOk, Some, length, slice_get};
-ghost use Rattle.ft_base.specs.declared.requests.Signature.{Signature};
-ghost use Rattle.lone_group.specs.Servant.{machine};
-ghost use Rattle.lone_group.specs.Group.{Group, IsAnswer};
-ghost use Rattle.ft_world.specs.Printed.{shown, shown_outcome};
-ghost use Rattle.ft_world.specs.World.{World, arrives_of, deliver_line, heard_by, is_waiting_for, judged};
-ghost use Rattle.ft_world.specs.Sound.{AnsweredAfter, Answered, Did, IsRouted};
-ghost use Rattle.ft_world.specs.declared.clients.Client.{Client};
+//! Messages that come to their hosts and clients.
+ghost use Rattle.std.specs.Prelude.{◌≡◌, ℕ, ◌+◌, ◌<◌, ◌≤◌, [], ◌∷◌, IfOk, List, None, Some, length, option_map, slice_get};
+ghost use Rattle.std.specs.List.{AllByRecursion};
+ghost use Rattle.ft_base.specs.declared.limits.TheConstants.{HOST_LIMIT};
+ghost use Rattle.group_model.specs.Agreeing.{IsShortAsked};
+ghost use Rattle.group_model.specs.Sending.{brought, sent_by};
+ghost use Rattle.group_model.specs.declared.events.Out.{Out as AnOut};
+ghost use Rattle.script_groups.specs.Groups.{ScriptGroup as Group, group_numbered};
+ghost use Rattle.ft_world.specs.Answers.{Acts, Does};
+ghost use Rattle.ft_world.specs.Delivering.{answered, arrives, asked_by, asker_of, brought_to, came, deliver_line, heard_by, heard_of, held, index_of, redirected_to, reply_to, requested};
+ghost use Rattle.ft_world.specs.Printed.{gives_of, shown};
+ghost use Rattle.ft_world.specs.Sending.{carried};
+ghost use Rattle.script_world.specs.Sound.{IsKeptWorld, IsOnItsWay};
 
-use crate::messages::{Attempt, Message, Reply};
-use crate::worlds::World;
+use crate::calls::does;
+use crate::hosts::one_line;
+use crate::printing::{gives_of, shown};
+use crate::sending::send_all;
+use cdr_codec::{Order, Raw};
+use client_retry::Heard;
 use fault_script::LineFault;
-use ft_base::{Decision, HostNo, Name, NoMemory, Outcome, Signature, Steps};
-use ft_report::{CallEnd, ReportLine, ReportLines, ReportOutcome, worth_of};
+use ft_base::{Decision, GroupId, HostNo, Name, NoMemory, Par, Request, Steps, Stop, Version};
+use ft_report::{ReportLine, ReportLines};
+use group_model::{Asked, Event, GroupAnswer, Inner, Out, OutList};
+use script_clients::Attempt;
+use script_world::{Message, Reply, World};
 use std::alloc::Global;
 use std::sync::ledger::Ledger;
 use sys_faults::Answer;
 
-// What a served request's two lines name.
+/// Whom a request is from, where it came, and how its reply is printed.
 #[derive(Drop)]
-struct Served {
-    host: HostNo,
-    group: Name,
-    client: Name,
-    decision: Decision,
+pub struct Asker {
+    /// The place of the client among all clients.
+    pub client: usize,
+    pub client_name: Name,
+    pub host: HostNo,
+    /// The request's id.
+    pub id: u32,
+    pub group: GroupId,
+    pub group_name: Name,
+    /// What the request's operation gives.
+    pub gives: Option<Par>,
 }
 
-fn shown_outcome(
-    alloc: Global,
-    signature: Option<Signature>,
-    outcome: Outcome,
-) -> Result<ReportOutcome, NoMemory>
-    requires { IsAnswer signature (Answer.Done outcome) }
-    ensures { IfOk result (λ printed. printed ≡ shown_outcome signature outcome) }
+/// More bytes of arguments than a line can say.
+const ARGUMENT_ROOM: usize = 1_048_576;
+
+// What the elements of bytes are.
+fn are_octets(bytes: &[u8])
+    ensures { AllByRecursion (λ b. b < 256) bytes.now }
 {
-    match outcome {
-        Outcome::Value(value) => {
-            let gives = match signature {
-                Some(signature) => signature.gives,
-                None => None,
-            };
-            let worth = worth_of(alloc, gives, &value)?;
-            Ok(ReportOutcome::Value(worth))
-        }
-        Outcome::User(name) => Ok(ReportOutcome::User(name)),
+    let _bytes = bytes;
+}
+
+// What an attempt asks of its host.
+fn asked_by(alloc: Global, attempt: Attempt) -> Result<Asked, NoMemory>
+    ensures asked { IfOk result (λ asked. asked ≡ asked_by attempt) }
+    ensures short { IfOk result IsShortAsked }
+{
+    let Attempt {
+        version,
+        request,
+        ..
+    } = attempt;
+    let Request { key, op, args } = request;
+    are_octets(args.bytes());
+    // no line is that long
+    if args.bytes().len() > ARGUMENT_ROOM {
+        return Err(NoMemory);
+    }
+    Ok(Asked {
+        version,
+        key,
+        bad_context: None,
+        op: Some(op),
+        body: Raw {
+            order: Order::Big,
+            align: 0,
+            bytes: args,
+        },
+    })
+}
+
+// The number of an order.
+fn index_of(carried: &Inner) -> Option<u32>
+    ensures { result ≡ index_of carried.now }
+{
+    match carried {
+        Inner::View { .. } => None,
+        Inner::State { .. } => None,
+        Inner::Update { .. } => None,
+        Inner::Order { index, .. } => Some(*index),
     }
 }
 
-// A group's answer as it is printed.
-fn shown_answer(
+// What one host sent to another, as it comes.
+fn brought(out: Out) -> Event
+    ensures { result ≡ brought out }
+{
+    let host = out.to;
+    match out.carried {
+        Inner::View { version } => Event::View { host, version },
+        Inner::State { position, state } => Event::State {
+            host,
+            position,
+            state,
+        },
+        Inner::Update { from, to, update } => Event::Update {
+            host,
+            from,
+            to,
+            update,
+        },
+        Inner::Order { index, request } => Event::Order {
+            host,
+            index,
+            request,
+        },
+    }
+}
+
+// What is printed where an order is held back.
+fn held(
     alloc: Global,
-    group: &Name,
-    signature: Option<Signature>,
-    answer: Answer,
-) -> Result<ReportOutcome, NoMemory>
-    requires { IsAnswer signature answer }
-    ensures { IfOk result (λ printed. printed ≡ shown group.now signature answer) }
+    message: u64,
+    index: Option<u32>,
+    position: u32,
+) -> Result<ReportLines, NoMemory>
+    ensures { IfOk result (λ report. report ≡ held message index position) }
+{
+    match index {
+        None => Ok(ReportLines::new(alloc)),
+        Some(index) => one_line(
+            alloc,
+            ReportLine::Held {
+                message,
+                index,
+                position,
+            },
+        ),
+    }
+}
+
+// What is printed where something came that one host sent to another.
+fn came(
+    alloc: Global,
+    message: u64,
+    group: Name,
+    host: HostNo,
+    index: Option<u32>,
+    answer: GroupAnswer,
+) -> Result<ReportLines, NoMemory>
+    ensures { IfOk result (λ report. report ≡ came message group host index answer) }
 {
     match answer {
-        Answer::Done(outcome) => shown_outcome(alloc, signature, outcome),
-        Answer::System(fault) => Ok(ReportOutcome::System(fault)),
-        Answer::Forward(version) => {
-            let group = group.copy(alloc)?;
-            Ok(ReportOutcome::Forward { group, version })
+        GroupAnswer::Known(version) => one_line(
+            alloc,
+            ReportLine::Known {
+                host,
+                group,
+                version,
+            },
+        ),
+        GroupAnswer::Applied(position) => {
+            one_line(alloc, ReportLine::Applied { message, position })
         }
-        Answer::ForwardPerm(version) => {
-            let group = group.copy(alloc)?;
-            Ok(ReportOutcome::ForwardPerm { group, version })
-        }
+        GroupAnswer::Held(position) => held(alloc, message, index, position),
+        GroupAnswer::Ignored(why) => one_line(alloc, ReportLine::Ignored { message, why }),
+        GroupAnswer::Down => one_line(alloc, ReportLine::Lost { message }),
+        _ => Ok(ReportLines::new(alloc)),
     }
 }
 
-fn done_report(
+// What is printed of a request that was answered.
+fn answered_report(
     alloc: Global,
-    client: &Name,
-    call: u32,
-    shown: ReportOutcome,
-) -> Result<ReportLines, NoMemory>
-    ensures { IfOk result (λ report. report ≡ ReportLine.Done client.now call (CallEnd.Shown shown) ∷ []) }
-{
-    let mut report = ReportLines::new(alloc);
-    let client = client.copy(alloc)?;
-    report.push(ReportLine::Done {
-        client,
-        call,
-        end: CallEnd::Shown(shown),
-    })?;
-    Ok(report)
-}
-
-fn unheard_report(alloc: Global, message: u64) -> Result<ReportLines, NoMemory>
-    ensures { IfOk result (λ report. report ≡ ReportLine.UnheardReply message ∷ []) }
-{
-    let mut report = ReportLines::new(alloc);
-    report.push(ReportLine::UnheardReply { message })?;
-    Ok(report)
-}
-
-// The lines of a request that was served: what the host made of it, and its reply.
-fn served_report(
-    alloc: Global,
-    served: Served,
+    asker: &Asker,
+    decision: Decision,
     message: u64,
-    id: u32,
-    shown: &ReportOutcome,
+    answer: &Answer,
 ) -> Result<ReportLines, NoMemory>
     ensures { IfOk result (λ report. report ≡
-        ReportLine.At served.host served.group served.decision
-        ∷ ReportLine.Reply message served.host served.client id shown.now ∷ []) }
+        ReportLine.At asker.now.host asker.now.group_name decision
+        ∷ ReportLine.Reply message asker.now.host asker.now.client_name asker.now.id (shown asker.now.group_name asker.now.gives answer.now) ∷ []) }
 {
     let mut report = ReportLines::new(alloc);
-    let shown = shown.copy(alloc)?;
-    let Served {
-        host,
-        group,
-        client,
-        decision,
-    } = served;
+    let group = asker.group_name.copy(alloc)?;
     report.push(ReportLine::At {
-        host,
+        host: asker.host,
         group,
         decision,
     })?;
+    let client = asker.client_name.copy(alloc)?;
+    let shown = shown(alloc, &asker.group_name, asker.gives, answer)?;
     report.push(ReportLine::Reply {
         message,
-        host,
+        host: asker.host,
         client,
-        id,
+        id: asker.id,
         shown,
     })?;
     Ok(report)
 }
 
-fn is_waiting_for(id: u32, waiting: Option<u32>) -> bool
-    ensures { result ≡ is_waiting_for id waiting }
+// What is printed of a request at which its host stopped.
+fn stopped_report(alloc: Global, asker: Asker, decision: Decision) -> Result<ReportLines, NoMemory>
+    ensures { IfOk result (λ report. report ≡ ReportLine.At asker.host asker.group_name decision ∷ ReportLine.Down asker.host ∷ []) }
 {
-    match waiting {
-        None => false,
-        Some(other) => other == id,
+    let mut report = ReportLines::new(alloc);
+    let Asker {
+        host,
+        group_name,
+        ..
+    } = asker;
+    report.push(ReportLine::At {
+        host,
+        group: group_name,
+        decision,
+    })?;
+    report.push(ReportLine::Down { host })?;
+    Ok(report)
+}
+
+// The reply is sent, and then what goes to other members.
+fn reply(
+    world: &mut World,
+    asker: Asker,
+    decision: Decision,
+    answer: Answer,
+    out: OutList,
+) -> Result<ReportLines, NoMemory>
+    requires { AllByRecursion (λ o. IsOnItsWay world.old.groups (carried asker.group o)) out }
+    ensures { (k calls : ℕ) → Does (answered world.old k asker (GroupAnswer.Reply decision (Some answer) out)) result world.new calls calls }
+{
+    let number = world.message_count() as u64 + 1;
+    let mut report = answered_report(world.alloc(), &asker, decision, number, &answer)?;
+    let Asker {
+        client,
+        client_name: _,
+        host,
+        id,
+        group,
+        group_name,
+        gives,
+    } = asker;
+    world.send(Message::Reply(Reply {
+        client,
+        group,
+        host,
+        id,
+        answer,
+        gives,
+    }))?;
+    send_all(world, &mut report, group, &group_name, host, out)?;
+    Ok(report)
+}
+
+// The host stopped at the request, and is down for every group.
+fn stop<L: Ledger>(
+    world: &mut World,
+    asker: Asker,
+    decision: Decision,
+    steps: &mut Steps<L>,
+) -> Result<ReportLines, NoMemory>
+    requires host { asker.host.0 < HOST_LIMIT }
+    requires kept { IsKeptWorld world.old }
+    ensures { (k : ℕ) (out : List AnOut) → Does (answered world.old k asker (GroupAnswer.Reply decision None out)) result world.new steps.old steps.new }
+{
+    let host = asker.host;
+    let report = stopped_report(world.alloc(), asker, decision)?;
+    world.set_power(host, false, steps)?;
+    Ok(report)
+}
+
+// What the host made of a request.
+fn answered<L: Ledger>(
+    world: &mut World,
+    number: u64,
+    asker: Asker,
+    answer: GroupAnswer,
+    steps: &mut Steps<L>,
+) -> Result<ReportLines, NoMemory>
+    requires kept { IsKeptWorld world.old }
+    requires host { asker.host.0 < HOST_LIMIT }
+    requires sent { AllByRecursion (λ o. IsOnItsWay world.old.groups (carried asker.group o)) (sent_by answer) }
+    ensures { Does (answered world.old number asker answer) result world.new steps.old steps.new }
+{
+    match answer {
+        GroupAnswer::Reply {
+            decision,
+            answer,
+            out,
+        } => match answer {
+            Some(answer) => reply(world, asker, decision, answer, out),
+            None => stop(world, asker, decision, steps),
+        },
+        GroupAnswer::Down => one_line(world.alloc(), ReportLine::Lost { message: number }),
+        _ => Ok(ReportLines::new(world.alloc())),
     }
 }
 
-impl World {
-    // A reply comes to its client.
-    fn hear(&mut self, number: u64, reply: Reply) -> Result<ReportLines, LineFault>
-        requires { reply.client < length self.old.clients }
-        ensures answer { Answered (heard_by self.old number reply (slice_get self.old.clients reply.client)) result self.new }
-        ensures clock { OnOk result (self.new.clock ≡ self.old.clock) }
-    {
-        let alloc = self.alloc();
-        let client = self.client(reply.client);
-        if !is_waiting_for(reply.id, client.waiting) {
-            let report = unheard_report(alloc, number)?;
-            return Ok(report);
-        }
-        let report = done_report(alloc, &client.name, reply.id, reply.shown)?;
-        self.close_call(reply.client);
-        Ok(report)
-    }
+// Who asks by this attempt, of the group at this place.
+fn who_asks(
+    world: &World,
+    client: usize,
+    host: HostNo,
+    attempt: &Attempt,
+    place: usize,
+) -> Result<Option<Asker>, NoMemory>
+    requires within { place < length world.now.groups }
+    requires kept { IsKeptWorld world.now }
+    ensures { (g : Group) → slice_get world.now.groups place ≡ Some g →
+        IfOk result (λ asker. asker ≡ option_map (asker_of client host attempt.now g) (slice_get world.now.clients client)) }
+{
+    let alloc = world.alloc();
+    let Some(from) = world.client(client) else {
+        return Ok(None);
+    };
+    let group = world.group(place);
+    let client_name = from.name().copy(alloc)?;
+    let group_name = group.name().copy(alloc)?;
+    Ok(Some(Asker {
+        client,
+        client_name,
+        host,
+        id: attempt.id,
+        group: group.id(),
+        group_name,
+        gives: gives_of(group.signature(&attempt.request.op)),
+    }))
+}
 
-    // The reply of a request that was served is sent, after so many servant calls.
-    fn reply(&mut self, served: Served, reply: Reply) -> Result<ReportLines, LineFault>
-        requires { reply.client < length self.old.clients }
-        ensures answer { (calls : ℕ) → AnsweredAfter calls
-            (judged (record self.old { messages = self.old.messages ++ Message.Reply reply ∷ [] })
-            (ReportLine.At served.host served.group served.decision
-            ∷ ReportLine.Reply (length self.old.messages + 1) served.host served.client reply.id reply.shown ∷ []) calls)
-            result self.new }
-        ensures clock { OnOk result (self.new.clock ≡ self.old.clock) }
-    {
-        let number = self.message_count() as u64 + 1;
-        let report = served_report(self.alloc(), served, number, reply.id, &reply.shown)?;
-        if let Some(why) = self.refuses_more() {
-            return Err(why);
-        }
-        self.send(Message::Reply(reply))?;
-        Ok(report)
+// A request comes to its host.
+fn arrive<L: Ledger>(
+    world: &mut World,
+    number: u64,
+    client: usize,
+    host: HostNo,
+    attempt: Attempt,
+    stop: Stop,
+    steps: &mut Steps<L>,
+) -> Result<ReportLines, NoMemory>
+    requires host { host.0 < HOST_LIMIT }
+    requires kept { IsKeptWorld world.old }
+    ensures { Does (requested world.old number client host attempt stop (group_numbered world.old.groups attempt.group.0) (slice_get world.old.clients client))
+        result world.new steps.old steps.new }
+{
+    let alloc = world.alloc();
+    let Some(place) = world.numbered_place(attempt.group) else {
+        return Ok(ReportLines::new(alloc));
+    };
+    let Some(asker) = who_asks(world, client, host, &attempt, place)? else {
+        return Ok(ReportLines::new(alloc));
+    };
+    let event = Event::Request {
+        host,
+        clock: world.host_clock(host),
+        asked: asked_by(alloc, attempt)?,
+        stop,
+    };
+    match world.event_at(place, event, steps) {
+        GroupAnswer::NoMemory => Err(NoMemory),
+        answer => answered(world, number, asker, answer, steps),
     }
+}
 
-    // A request comes to its host, which serves it and replies.
-    fn arrive<L: Ledger>(
-        &mut self,
-        attempt: Attempt,
-        steps: &mut Steps<L>,
-    ) -> Result<ReportLines, LineFault>
-        requires { IsRouted (length self.old.groups) (length self.old.clients) (Message.Attempt attempt) }
-        ensures did { Did (arrives_of self.old attempt
-            (slice_get self.old.groups attempt.group) (slice_get self.old.clients attempt.client))
-            result self.new steps.old steps.new }
-        ensures clock { OnOk result (self.new.clock ≡ self.old.clock) }
+// What one host sent comes to another.
+fn bring<L: Ledger>(
+    world: &mut World,
+    number: u64,
+    group: GroupId,
+    out: Out,
+    steps: &mut Steps<L>,
+) -> Result<ReportLines, NoMemory>
+    requires comes { IsOnItsWay world.old.groups (Message.Carried group out) }
+    requires kept { IsKeptWorld world.old }
+    ensures { Does (brought_to world.old number out (group_numbered world.old.groups group.0)) result world.new steps.old steps.new }
+{
+    let alloc = world.alloc();
+    let Some(place) = world.numbered_place(group) else {
+        return Ok(ReportLines::new(alloc));
+    };
+    let name = world.group(place).name().copy(alloc)?;
+    let host = out.to;
+    let index = index_of(&out.carried);
+    match world.event_at(place, brought(out), steps) {
+        GroupAnswer::NoMemory => Err(NoMemory),
+        answer => came(alloc, number, name, host, index, answer),
+    }
+}
+
+// What a redirect says: a reference of the group's view of this version.
+fn redirected_to(world: &World, group: GroupId, version: Version) -> Result<Heard, NoMemory>
+    requires { IsKeptWorld world.now }
+    ensures { IfOk result (λ heard. heard ≡ redirected_to (group_numbered world.now.groups group.0) version.0) }
+{
+    let Some(place) = world.numbered_place(group) else {
+        return Ok(Heard::Unreadable);
+    };
+    match world
+        .group(place)
+        .reference_at(world.alloc(), version, world.ports())?
     {
-        let alloc = self.alloc();
-        let Attempt {
+        Some(reference) => Ok(Heard::Forward(reference)),
+        None => Ok(Heard::Unreadable),
+    }
+}
+
+fn heard_of(world: &World, group: GroupId, answer: Answer) -> Result<Heard, NoMemory>
+    requires { IsKeptWorld world.now }
+    ensures { IfOk result (λ heard. heard ≡ heard_of world.now group answer) }
+{
+    match answer {
+        Answer::Done(outcome) => Ok(Heard::Outcome(outcome)),
+        Answer::System(fault) => Ok(Heard::System(fault)),
+        Answer::Forward(version) => redirected_to(world, group, version),
+        Answer::ForwardPerm(version) => redirected_to(world, group, version),
+    }
+}
+
+// A reply comes to its client.
+fn hear(world: &mut World, number: u64, reply: Reply) -> Result<ReportLines, NoMemory>
+    requires { IsKeptWorld world.old }
+    ensures { (calls : ℕ) → Does (heard_by world.old number reply (slice_get world.old.clients reply.client)) result world.new calls calls }
+{
+    let alloc = world.alloc();
+    let Reply {
+        client,
+        group,
+        host: _,
+        id,
+        answer,
+        gives,
+    } = reply;
+    let Some(from) = world.client(client) else {
+        return Ok(ReportLines::new(alloc));
+    };
+    let name = from.name().copy(alloc)?;
+    let idle = one_line(alloc, ReportLine::UnheardReply { message: number })?;
+    let heard = heard_of(world, group, answer)?;
+    let told = world.hear_at(client, id, heard)?;
+    does(world, client, &name, gives, idle, told)
+}
+
+// A message comes.
+fn deliver<L: Ledger>(
+    world: &mut World,
+    number: u64,
+    message: Message,
+    stop: Stop,
+    steps: &mut Steps<L>,
+) -> Result<ReportLines, NoMemory>
+    requires comes { IsOnItsWay world.old.groups message }
+    requires kept { IsKeptWorld world.old }
+    ensures { Does (arrives world.old number stop message) result world.new steps.old steps.new }
+{
+    match message {
+        Message::Request {
             client,
-            group,
             host,
-            id,
-            version: _,
-            request,
-        } = attempt;
-        let group_name = self.group(group).name().copy(alloc)?;
-        let client_name = self.client(client).name.copy(alloc)?;
-        let signature = self.group(group).signature(&request.op);
-        let clock = self.host_clock(host);
-        let served = match self.serve(group, clock, request, steps) {
-            Ok(served) => served,
-            Err(NoMemory) => return Err(LineFault::NoMemory),
-        };
-        let shown = match shown_answer(alloc, &group_name, signature, served.answer) {
-            Ok(shown) => shown,
-            Err(NoMemory) => return Err(LineFault::NoMemory),
-        };
-        let named = Served {
-            host,
-            group: group_name,
-            client: client_name,
-            decision: served.decision,
-        };
-        let reply = Reply {
-            client,
-            host,
-            id,
-            shown,
-        };
-        self.reply(named, reply)
+            attempt,
+        } => arrive(world, number, client, host, attempt, stop, steps),
+        Message::Reply(reply) => hear(world, number, reply),
+        Message::Carried { group, out } => bring(world, number, group, out, steps),
     }
+}
 
-    /// `deliver K`
-    pub(crate) fn deliver_line<L: Ledger>(
-        &mut self,
-        number: u64,
-        steps: &mut Steps<L>,
-    ) -> Result<ReportLines, LineFault>
-        ensures did { Did (deliver_line self.old number) result self.new steps.old steps.new }
-        ensures clock { OnOk result (self.new.clock ≡ self.old.clock) }
-    {
-        let message = match self.message(number) {
-            Some(message) => message,
-            None => return Err(LineFault::Unknown),
-        };
-        match message.copy(self.alloc()) {
-            Ok(Message::Attempt(attempt)) => self.arrive(attempt, steps),
-            Ok(Message::Reply(reply)) => self.hear(number, reply),
-            Err(NoMemory) => Err(LineFault::NoMemory),
-        }
+/// `deliver K`, `deliver K crash append`, `deliver K crash execute`
+pub(crate) fn deliver_line<L: Ledger>(
+    world: &mut World,
+    number: u64,
+    stop: Stop,
+    steps: &mut Steps<L>,
+) -> Result<ReportLines, LineFault>
+    requires { IsKeptWorld world.old }
+    ensures { Acts (deliver_line world.old number stop) result world.old world.new steps.old steps.new }
+{
+    let message = match world.message(number) {
+        Some(message) => message.copy(world.alloc())?,
+        None => return Err(LineFault::Unknown),
+    };
+    match deliver(world, number, message, stop, steps) {
+        Ok(report) => Ok(report),
+        Err(NoMemory) => Err(LineFault::NoMemory),
     }
 }

@@ -1,15 +1,34 @@
-ghost use Rattle.std.specs.Prelude.{List};
-ghost use Rattle.fault_script.specs.declared.lines.Line.{Line};
-ghost use Rattle.ft_world.specs.Once.{EachOnce, world_after};
-ghost use Rattle.ft_world.specs.World.{empty};
+//! Laws over runs of scripts. The functions do nothing: their contracts are facts.
+ghost use Rattle.ft_world.specs.Laws.{DeposedDoNothing, ScriptsAcceptOnce, ScriptsKeepEntries};
 
-use lone_group::requests_keep_once;
+use ft_base::requests_join;
+use group_model::deposed_append_nothing;
+use script_groups::groups_go_on;
 
-/// At most once: in every world that lines of a script make, each keyed request of each group's
-/// journal was accepted before its expiration, and a client's retention id was accepted again only
-/// once the expiration of its earlier acceptance had come.
-pub fn accepts_at_most_once()
-    ensures { (script : List Line) → EachOnce (world_after empty script).groups }
+/// At most once: in every world that lines of a script make, each request with a key in each group's journal was
+/// accepted before its expiration, and a client's retention id was accepted again only once the expiration of its
+/// earlier acceptance had come.
+pub fn scripts_accept_once()
+    ensures { ScriptsAcceptOnce }
 {
-    requests_keep_once();
+    requests_join();
+    groups_go_on();
+}
+
+/// Whatever lines follow, no group is lost; each entry that a group has accepted stays what it is, at its place;
+/// and the one reply of an entry is the same ever after.
+pub fn scripts_keep_entries()
+    ensures { ScriptsKeepEntries }
+{
+    requests_join();
+    groups_go_on();
+}
+
+/// In every world that lines of a script make: a host that knows an older view than the newest, when it is asked,
+/// appends nothing, changes nothing that the hosts of its group share, and calls no servant.
+pub fn deposed_do_nothing()
+    ensures { DeposedDoNothing }
+{
+    deposed_append_nothing();
+    groups_go_on();
 }

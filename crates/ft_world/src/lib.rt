@@ -1,20 +1,16 @@
-//! All groups of a script, their clients, and the messages in flight: what each line does to them,
-//! and what it prints. The world that the contracts speak of has one journal for each group, and what a
-//! request makes of a group is lone_group's (specs/World.antt).
+//! What the lines of a script do to its world, and what they print. The world that the contracts speak of has a
+//! plain group for each of its groups.
 #![tactic(auto)]
 
 mod acts;
 mod calls;
-mod clients;
 mod deliveries;
+mod hosts;
 mod laws;
-mod limits;
 mod links;
-mod messages;
-mod worlds;
+mod making;
+mod printing;
+mod sending;
 
-pub use clients::Client;
-pub use laws::accepts_at_most_once;
-pub use limits::{CLIENT_LIMIT, DEFAULT_LIFE, ENTRY_LIMIT, GROUP_LIMIT, MESSAGE_LIMIT};
-pub use messages::{Attempt, Message, Reply};
-pub use worlds::World;
+pub use acts::act;
+pub use laws::{deposed_do_nothing, scripts_accept_once, scripts_keep_entries};

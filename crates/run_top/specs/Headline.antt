@@ -5,7 +5,7 @@ use Rattle.std.specs.declared.alloc.Global.{Global}
 use Rattle.ft_outside.specs.Outside.{next_count}
 use Rattle.fault_script.specs.Faults.{fault_text}
 use Rattle.fault_script.specs.declared.lines.LineFault.{LineFault}
-use Rattle.ft_world.specs.World.{empty}
+use Rattle.script_world.specs.World.{empty}
 use Rattle.script_pieces.specs.Feeds.{IsGain}
 use Rattle.script_pieces.specs.Runs.{RunEffect, run, whole_run}
 use Rattle.script_pieces.specs.Scripts.{IsAtEnd}

@@ -1,5 +1,5 @@
 -- What the text of a script line does to the world, and what it prints.
-use Rattle.std.specs.Prelude.{ℕ, ◌*◌, ◌^◌, ◌≤◌, [], flat_map, Option, Some, None, Result, Ok, Err}
+use Rattle.std.specs.Prelude.{ℕ, [], flat_map, Option, Some, None, Result, Ok, Err}
 use Rattle.fault_script.specs.Forms.{parse}
 use Rattle.fault_script.specs.declared.lines.Line.{Line}
 use Rattle.fault_script.specs.declared.lines.LimitName.TheVariants.{Script}
@@ -7,8 +7,9 @@ use Rattle.fault_script.specs.declared.lines.LineFault.{LineFault}
 use Rattle.fault_script.specs.declared.lines.LineFault.TheVariants.{Limit}
 use Rattle.ft_report.specs.Report.{report_text}
 use Rattle.ft_world.specs.Acts.{act}
-use Rattle.ft_world.specs.World.{World}
-use Rattle.ft_world.specs.World as world
+use Rattle.ft_world.specs.Turns as world
+use Rattle.script_world.specs.Sound.{HasActed, IsKeptWorld}
+use Rattle.script_world.specs.World.{World}
 use Rattle.fault_script.specs.declared.lines.LineFault.TheVariants as faults
 use Rattle.script_pieces.specs.Runs.{Rules, LineEffect, Goes, Stops}
 use Rattle.script_pieces.specs.declared.actors.LineResult.{LineResult}
@@ -29,9 +30,10 @@ effect_of w (Ok (Some line)) = printed_effect (act w line)
 abbrev pub rules : Rules World LineFault
 rules = record { effect = λ w text. effect_of w (parse text); past = Limit Script }
 
--- a line adds at most 2^32 to the clock of its world, which a world that may act the line of this number keeps
-abbrev pub MayAct : World → ℕ → Type 0
-MayAct w number = w.clock ≤ 2 ^ 32 * number
+-- a world that may act the line of this number: it has acted no more lines before, and memory was not wanted
+pub record MayAct (w : World) (number : ℕ) : Type 0 where
+  pub kept : IsKeptWorld w
+  pub acted : HasActed w number
 
 -- a refusal as it is acted: want of memory is none
 abbrev pub refusal : LineFault → LineResult LineFault

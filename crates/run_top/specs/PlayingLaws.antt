@@ -7,7 +7,7 @@ use Rattle.fault_script.specs.Forms.{parse, parse_words}
 use Rattle.fault_script.specs.Words.{words}
 use Rattle.fault_script.specs.declared.lines.LimitName.TheVariants as limits
 use Rattle.fault_script.specs.declared.lines.LineFault.TheVariants.{Limit}
-use Rattle.ft_world.specs.World.{World}
+use Rattle.script_world.specs.World.{World}
 use Rattle.run_top.specs.Playing.{effect_of, rules}
 
 long : (text : List ℕ) → 4096 < length text → parse text ≡ Err (Limit limits.Line)

@@ -2,10 +2,11 @@ ghost use Rattle.std.specs.Prelude.{◌≡◌};
 ghost use Rattle.run_top.specs.Playing.{refusal};
 
 use fault_script::{LimitName, Line, LineFault, read_line};
-use ft_base::{Bytes, Steps};
+use ft_base::{Bytes, NoMemory, Steps};
 use ft_report::render_all;
-use ft_world::World;
+use ft_world::act;
 use script_pieces::{Actor, LineResult};
+use script_world::World;
 use std::alloc::Global;
 use std::marker::Model;
 use std::sync::ledger::Ledger;
@@ -17,7 +18,7 @@ pub struct Script {
 }
 
 impl Model for Script {
-    ghost use Rattle.ft_world.specs.World.{World};
+    ghost use Rattle.script_world.specs.World.{World};
 
     ghost Value = { World };
 
@@ -38,19 +39,20 @@ fn refusal(why: LineFault) -> LineResult<LineFault>
 }
 
 impl Script {
-    ghost use Rattle.std.specs.Prelude.{◌≡◌, ◌+◌, ◌^◌, ◌≤◌};
+    ghost use Rattle.std.specs.Prelude.{◌≡◌, ℕ, ◌+◌, ◌≤◌, IfOk};
     ghost use Rattle.ft_world.specs.Acts.{act};
-    ghost use Rattle.ft_world.specs.World.{empty};
+    ghost use Rattle.script_world.specs.World.{empty};
+    ghost use Rattle.script_world.specs.Sound.{HasActed, IsKeptWorld};
     ghost use Rattle.script_pieces.specs.Feeds.{IfGoes, IsActed};
-    ghost use Rattle.run_top.specs.Playing.{printed_effect};
+    ghost use Rattle.script_pieces.specs.Runs.{script_limit};
+    ghost use Rattle.run_top.specs.Playing.{MayAct, printed_effect};
 
     /// A script of which no line was acted yet.
-    pub fn new(alloc: Global) -> Script
-        ensures { result ≡ empty }
+    pub fn new(alloc: Global) -> Result<Script, NoMemory>
+        ensures { IfOk result (λ script. script ≡ empty) }
     {
-        Script {
-            world: World::new(alloc),
-        }
+        let world = World::new(alloc)?;
+        Ok(Script { world })
     }
 
     // Acts a line that was read.
@@ -60,11 +62,11 @@ impl Script {
         line: Line,
         steps: &mut Steps<L>,
     ) -> LineResult<LineFault>
-        requires { self.old.clock ≤ 2 ^ 63 }
+        requires { (number : ℕ) × (number ≤ script_limit + 1) × MayAct self.old number }
         ensures acted { IsActed (printed_effect (act self.old line)) self.new steps.old steps.new result }
-        ensures clock { IfGoes result (self.new.clock ≤ self.old.clock + 2 ^ 32) }
+        ensures next { (number : ℕ) → MayAct self.old number → IfGoes result (MayAct self.new (number + 1)) }
     {
-        match self.world.act(line, steps) {
+        match act(&mut self.world, line, steps) {
             Ok(report) => match render_all(alloc, &report) {
                 Ok(printed) => LineResult::Goes(printed),
                 Err(_) => LineResult::NoMemory,

@@ -30,7 +30,7 @@ const WRITES: [&[u8]; 6] = [
     b"at 0 bank append 1\nbytes 47494f5001020101140000000700000000000000000000000500000000000000\nlink closed\n",
 ];
 
-const ROWS: [Row; 18] = [
+const ROWS: [Row; 19] = [
     Row {
         script: b"",
         status: 0,
@@ -153,12 +153,73 @@ const ROWS: [Row; 18] = [
         script: b"hosts 1\ncrash 1\n",
         status: 3,
         out: b"",
-        err: b"ftc: line 2: later\n",
+        err: b"ftc: line 2: unknown\n",
+    },
+    // A queue, whose `pop` has no parameters: its body may be empty without padding, or with it.
+    Row {
+        script: b"hosts 1\ngroup jobs queue cold 0\ninject 0 47494f5001020000000000280000000903000000000000000000000c46544f47000000000000000100000004706f700000000000\ninject 0 47494f50010200000000002c0000000903000000000000000000000c46544f47000000000000000100000004706f70000000000000000000\n",
+        status: 0,
+        out: b"group jobs 1\nview jobs 1 members 0 primary 0\nat 0 jobs append 0\nbytes 47494f5001020001000000270000000900000001000000000000001749444c3a6674632f5175657565456d7074793a312e3000\nlink closed\nat 0 jobs append 1\nbytes 47494f5001020001000000270000000900000001000000000000001749444c3a6674632f5175657565456d7074793a312e3000\nlink closed\n",
+        err: b"",
+    },
+];
+
+// Scripts whose groups have other than one member, or whose hosts stop.
+const MEMBERS: [Row; 7] = [
+    // The primary stops between its append and the servant. The next member runs the entry, once, and answers the
+    // client, whom the old primary sends there.
+    Row {
+        script: b"hosts 2\ngroup bank account cold 0 1\nclient ann\ncall ann bank deposit 5\ndeliver 1 crash append\nreport bank 0\ndeliver 2\ndeliver 3\nrestart 0\ndeliver 1\ndeliver 4\ndeliver 5\ndeliver 6\nshow bank\n",
+        status: 0,
+        out: b"group bank 1\nview bank 1 members 0,1 primary 0\nmsg 1 client ann to host 0 request 1\nat 0 bank append 0\ndown 0\nview bank 2 members 1 primary 1\nmsg 2 manager to host 0 view bank 2\nmsg 3 manager to host 1 view bank 2\nlost 2\nknown 1 bank 2\nup 0\nat 0 bank older 1 2\nmsg 4 host 0 to client ann reply 1 forward-perm bank 2\nadopt ann bank 2\nmsg 5 client ann to host 1 request 2\nat 1 bank repeat 0\nmsg 6 host 1 to client ann reply 2 value 5\ndone ann 1 value 5\nshow bank view 2 entries 1 mark 0 time 0\nmember 1 primary known 2 at 1 state 0000000000000005\n",
+        err: b"",
+    },
+    // It stops behind the servant instead; the reply that wasn't sent is had from the next member.
+    Row {
+        script: b"hosts 2\ngroup bank account cold 0 1\nclient ann\ncall ann bank deposit 5\ndeliver 1 crash execute\nshow bank\nreport bank 0\nrestart 0\ndeliver 1\ndeliver 4\ndeliver 5\n",
+        status: 0,
+        out: b"group bank 1\nview bank 1 members 0,1 primary 0\nmsg 1 client ann to host 0 request 1\nat 0 bank append 0\ndown 0\nshow bank view 1 entries 1 mark 0 time 0\nmember 0 primary down\nmember 1 backup known 1 blank\nview bank 2 members 1 primary 1\nmsg 2 manager to host 0 view bank 2\nmsg 3 manager to host 1 view bank 2\nup 0\nat 0 bank older 1 2\nmsg 4 host 0 to client ann reply 1 forward-perm bank 2\nadopt ann bank 2\nmsg 5 client ann to host 1 request 2\nat 1 bank repeat 0\nmsg 6 host 1 to client ann reply 2 value 5\n",
+        err: b"",
+    },
+    // A false suspicion: the deposed primary, which has not heard of the new view, runs nothing.
+    Row {
+        script: b"hosts 2\ngroup bank account cold 0 1\nclient ann\nclient bob\ncall ann bank deposit 5 nover\ncall bob bank deposit 7\nreport bank 0\ndeliver 1\ndeliver 2\nshow bank\n",
+        status: 0,
+        out: b"group bank 1\nview bank 1 members 0,1 primary 0\nmsg 1 client ann to host 0 request 1\nmsg 2 client bob to host 0 request 1\nview bank 2 members 1 primary 1\nmsg 3 manager to host 0 view bank 2\nmsg 4 manager to host 1 view bank 2\nat 0 bank deposed 1 2\nmsg 5 host 0 to client ann reply 1 forward-perm bank 2\nat 0 bank older 1 2\nmsg 6 host 0 to client bob reply 1 forward-perm bank 2\nshow bank view 2 entries 0 mark 0 time 0\nmember 1 primary known 1 blank\nmember 0 former known 2 at 0 state 0000000000000000\n",
+        err: b"",
+    },
+    // The new primary serves before the view has come to it.
+    Row {
+        script: b"hosts 2\ngroup bank account cold 0 1\nclient ann\nreport bank 0\ncall ann bank deposit 5\ndeliver 3\n",
+        status: 0,
+        out: b"group bank 1\nview bank 1 members 0,1 primary 0\nview bank 2 members 1 primary 1\nmsg 1 manager to host 0 view bank 2\nmsg 2 manager to host 1 view bank 2\nmsg 3 client ann to host 1 request 1\nat 1 bank append 0\nmsg 4 host 1 to client ann reply 1 value 5\n",
+        err: b"",
+    },
+    // All members leave, and one comes back: its account is that of the journal.
+    Row {
+        script: b"hosts 2\ngroup bank account cold 0 1\nclient ann\ncall ann bank deposit 5\ndeliver 1\ndeliver 2\nreport bank 0\nreport bank 1\ncall ann bank deposit 7\ndeliver 6\ndeliver 7\nadd bank 1\ndeliver 9\ndeliver 8\ndeliver 10\ndeliver 11\n",
+        status: 0,
+        out: b"group bank 1\nview bank 1 members 0,1 primary 0\nmsg 1 client ann to host 0 request 1\nat 0 bank append 0\nmsg 2 host 0 to client ann reply 1 value 5\ndone ann 1 value 5\nview bank 2 members 1 primary 1\nmsg 3 manager to host 0 view bank 2\nmsg 4 manager to host 1 view bank 2\nview bank 3 members - primary -\nmsg 5 manager to host 1 view bank 3\nmsg 6 client ann to host 0 request 2\nat 0 bank empty 3\nmsg 7 host 0 to client ann reply 2 system TRANSIENT 1 no\nmsg 8 client ann to host 1 request 3\nview bank 4 members 1 primary 1\nmsg 9 manager to host 1 view bank 4\nknown 1 bank 4\nat 1 bank older 1 4\nmsg 10 host 1 to client ann reply 3 forward-perm bank 4\nadopt ann bank 4\nmsg 11 client ann to host 1 request 4\nat 1 bank append 1\nmsg 12 host 1 to client ann reply 4 value 12\n",
+        err: b"",
+    },
+    // Each change of members and each of its refusals; an older view that comes behind a newer one.
+    Row {
+        script: b"hosts 3\ngroup bank account cold 0 1\nprimary bank 1\nprimary bank 1\nprimary bank 2\nadd bank 1\nadd bank 2\nremove bank 1\nremove bank 1\ndeliver 8\ndeliver 5\ncrash 2\ncrash 2\nshow bank\ndeliver 8\ninject 2 -\nrestart 2\nrestart 2\n",
+        status: 0,
+        out: b"group bank 1\nview bank 1 members 0,1 primary 0\nview bank 2 members 0,1 primary 1\nmsg 1 manager to host 0 view bank 2\nmsg 2 manager to host 1 view bank 2\nrefused PrimaryNotSet 1\nrefused MemberNotFound 2\nrefused MemberAlreadyPresent 1\nview bank 3 members 0,1,2 primary 1\nmsg 3 manager to host 0 view bank 3\nmsg 4 manager to host 1 view bank 3\nmsg 5 manager to host 2 view bank 3\nview bank 4 members 0,2 primary 0\nmsg 6 manager to host 0 view bank 4\nmsg 7 manager to host 1 view bank 4\nmsg 8 manager to host 2 view bank 4\nrefused MemberNotFound 1\nknown 2 bank 4\nignored 5 view 3 known 4\ndown 2\ndown 2\nshow bank view 4 entries 0 mark 0 time 0\nmember 0 primary known 1 at 0 state 0000000000000000\nmember 2 backup down\nlost 8\nlink lost\nup 2\nup 2\n",
+        err: b"",
+    },
+    // A group without members has no reference that a client could go by.
+    Row {
+        script: b"hosts 1\ngroup bank account cold\nclient ann\ncall ann bank deposit 5\nshow bank\n",
+        status: 0,
+        out: b"group bank 1\nview bank 1 members - primary -\ndone ann 1 system TRANSIENT 1 maybe faults 0 profiles 0\nshow bank view 1 entries 0 mark 0 time 0\n",
+        err: b"",
     },
 ];
 
 // Scripts, each with the line that is refused and why, or with no error text.
-const REFUSALS: [(&[u8], &[u8]); 18] = [
+const REFUSALS: [(&[u8], &[u8]); 24] = [
     (b"hosts 64\n", b""),
     (b"hosts 65\n", b"ftc: line 1: limit hosts\n"),
     (
@@ -176,11 +237,20 @@ const REFUSALS: [(&[u8], &[u8]); 18] = [
         b"hosts 1\ngroup g account cold 1\n",
         b"ftc: line 2: unknown\n",
     ),
-    (b"hosts 1\ngroup g store cold 0\n", b"ftc: line 2: later\n"),
+    (b"hosts 1\ngroup g store warm 0\n", b"ftc: line 2: later\n"),
     (
         b"hosts 1\ngroup g account cold 0 0\n",
-        b"ftc: line 2: later\n",
+        b"ftc: line 2: again\n",
     ),
+    (
+        b"hosts 17\ngroup g account cold 0 1 2 3 4 5 6 7 8 9 10 11 12 13 14 15 16\n",
+        b"ftc: line 2: limit members\n",
+    ),
+    (b"deliver 1 crash append\n", b"ftc: line 1: unknown\n"),
+    (b"deliver 1 crash\n", b"ftc: line 1: syntax\n"),
+    (b"hosts 1\nadd bank 0\n", b"ftc: line 2: unknown\n"),
+    (b"restart 0\n", b"ftc: line 1: unknown\n"),
+    (b"timeout ann\n", b"ftc: line 1: later\n"),
     (
         b"hosts 1\ngroup g account cold x\n",
         b"ftc: line 2: syntax\n",
@@ -229,14 +299,19 @@ fn run<L: Ledger>(
     run_over(alloc, words, script, &[], fails, steps)
 }
 
-fn each_row<L: Ledger>(rt: &impl Abort, alloc: Global, blank: Blank) -> Result<(), NoMemory>
+fn each_row<L: Ledger>(
+    rt: &impl Abort,
+    alloc: Global,
+    rows: &[Row],
+    blank: Blank,
+) -> Result<(), NoMemory>
     requires name { blank.name ≡ L.name }
     requires parts { blank.parts ≡ L.parts }
     requires some { 0 < blank.parts }
 {
     let mut steps = Steps::<L>::new(blank);
     let words = vec![in alloc; String::from_str(alloc, "run")?]?;
-    for row in &ROWS {
+    for row in rows {
         let (status, out, err) = run(alloc, words.as_slice(), row.script, &[], &mut steps)?;
         assert_eq!(rt; out.bytes(), row.out);
         assert_eq!(rt; err.bytes(), row.err);
@@ -296,7 +371,12 @@ fn each_refusal_has_its_line(rt: HostRuntime) -> Result<(), NoMemory> {
 
 #[test]
 fn scripts_write_their_output(rt: HostRuntime) -> Result<(), NoMemory> {
-    each_row::<Brand>(&rt, rt.alloc(), Blank::new(1))
+    each_row::<Brand>(&rt, rt.alloc(), &ROWS, Blank::new(1))
+}
+
+#[test]
+fn members_take_over(rt: HostRuntime) -> Result<(), NoMemory> {
+    each_row::<Brand>(&rt, rt.alloc(), &MEMBERS, Blank::new(1))
 }
 
 fn each_end<L: Ledger>(rt: &impl Abort, alloc: Global, blank: Blank) -> Result<(), NoMemory>

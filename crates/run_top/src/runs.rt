@@ -133,7 +133,9 @@ pub fn ftc_run<A: Source, B: Sink, E: Sink, L: Ledger>(
             b"ftc: usage: ftc run [--make N] | live --hosts H --clients C --calls K --style S [--kill X] [--after N]\n",
         );
     }
-    let mut script = Script::new(alloc);
+    let Ok(mut script) = Script::new(alloc) else {
+        return end(err, 6, b"ftc: no memory\n");
+    };
     match run_script(alloc, &mut script, input, out, steps) {
         RunEnd::Done => 0,
         RunEnd::Refused(number, why) => refuse(alloc, err, number, why),

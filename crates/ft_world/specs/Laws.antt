@@ -1,0 +1,65 @@
+-- What holds of every world that a script makes.
+use Rattle.std.specs.Prelude.{◌≡◌, ℕ, ◌<◌, List, [], ◌∷◌, ◌++◌, length}
+use Rattle.std.specs.List.{AllByRecursion}
+use Rattle.ft_base.specs.Journal.{AtMostOnce, Entry, reply_at}
+use Rattle.ft_base.specs.declared.requests.Outcome.{Outcome}
+use Rattle.ft_base.specs.declared.decisions.Stop.{Stop}
+use Rattle.ft_base.specs.declared.numbers.HostNo.{HostNo}
+use Rattle.ft_base.specs.declared.numbers.Tick.{Tick}
+use Rattle.fault_script.specs.declared.lines.Line.{Line}
+use Rattle.group_model.specs.declared.asking.Asked.{Asked}
+use Rattle.group_model.specs.declared.events.Event.TheVariants as events
+use Rattle.group_model.specs.Decisions.{known_then}
+use Rattle.group_model.specs.Views.{newest}
+use Rattle.script_groups.specs.Groups.{ScriptGroup, acted, common_of, group_of, machine_of, turn}
+use Rattle.script_world.specs.World.{World, empty}
+use Rattle.ft_world.specs.Acts.{act}
+use Rattle.ft_world.specs.Turns.{Turn, Goes, Refused}
+
+-- the world after some lines, up to the first that is refused
+abbrev pub or_stay : World → Turn → (World → World) → World
+or_stay w (Goes next report calls) rest = rest next
+or_stay w (Refused why calls) rest = w
+
+unfoldable pub world_after : World → List Line → World
+world_after w [] = w
+world_after w (line ∷ lines) = or_stay w (act w line) (λ next. world_after next lines)
+
+-- At most once: each request with a key was accepted before its expiration, and a client's retention id again
+-- only once the expiration of its earlier acceptance had come.
+abbrev pub EachOnce : List ScriptGroup → Type 0
+EachOnce gs = AllByRecursion (λ g. AtMostOnce (common_of g).journal) gs
+
+abbrev pub ScriptsAcceptOnce : Type 0
+ScriptsAcceptOnce = (script : List Line) → EachOnce (world_after empty script).groups
+
+-- the groups of a world, and those of one behind it: none is lost, and each stands so to itself
+abbrev pub AllLater : (ScriptGroup → ScriptGroup → Type 0) → List ScriptGroup → List ScriptGroup → Type 0
+AllLater R [] hs = Unit {0}
+AllLater R (g ∷ gs) [] = ⊥
+AllLater R (g ∷ gs) (h ∷ hs) = R g h × AllLater R gs hs
+
+-- the one reply of an accepted entry
+abbrev pub reply_of : ScriptGroup → ℕ → Outcome
+reply_of g i = reply_at (machine_of g) (common_of g).opening (common_of g).journal i
+
+-- What a group has accepted it keeps, each entry at its place; and an entry's reply is the same ever after.
+pub record KeepsEntries (g h : ScriptGroup) : Type 0 where
+  pub id : h.id ≡ g.id
+  pub more : List Entry
+  pub journal : (common_of h).journal ≡ (common_of g).journal ++ more
+  pub replies : (i : ℕ) → i < length (common_of g).journal → reply_of h i ≡ reply_of g i
+
+abbrev pub ScriptsKeepEntries : Type 0
+ScriptsKeepEntries = (w : World) (script : List Line) → AllLater KeepsEntries w.groups (world_after w script).groups
+
+-- a host of the group that knows an older view than the newest, when it is asked, appends nothing, changes nothing
+-- that the hosts share, and calls no servant
+abbrev pub DeposedDoesNothing : ScriptGroup → Type 0
+DeposedDoesNothing g = (host : HostNo) (clock : Tick) (asked : Asked) (stop : Stop) →
+    known_then (newest (common_of g)) ((group_of g).hosts host.0).known asked.version < newest (common_of g) →
+    (common_of (acted g (events.Request host clock asked stop)) ≡ common_of g)
+    × ((turn g (events.Request host clock asked stop)).calls ≡ 0)
+
+abbrev pub DeposedDoNothing : Type 0
+DeposedDoNothing = (script : List Line) → AllByRecursion DeposedDoesNothing (world_after empty script).groups

@@ -1,5 +1,0 @@
-pub mod Servant
-pub mod Asked
-pub mod Group
-pub mod Kept
-pub mod Once
