@@ -8,7 +8,7 @@ mod reports;
 mod words;
 
 pub use outcomes::{ReportOutcome, Worth, worth_of};
-pub use rendering::{render, render_all};
+pub use rendering::{render_all, write_line};
 pub use reports::{CallEnd, ReportLine, ReportLines, Role, Standing};
 
 #[cfg(test)]

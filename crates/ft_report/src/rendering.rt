@@ -1,4 +1,4 @@
-ghost use Rattle.std.specs.Prelude.{◌≡◌, ◌∷◌, [], codes, decimal, IfOk};
+ghost use Rattle.std.specs.Prelude.{◌≡◌, ◌∷◌, [], codes, decimal, ◌++◌, IfOk, OnOk};
 ghost use Rattle.std.specs.List.{flat_map};
 ghost use Rattle.ft_report.specs.Words.{line};
 ghost use Rattle.ft_report.specs.Report.{between_hosts, report_text};
@@ -10,24 +10,28 @@ use crate::parts::{
 };
 use crate::reports::{CallEnd, ReportLine, ReportLines, Role, Standing};
 use crate::words::Word::{Fixed, Host, Made, Number, Text};
-use crate::words::{hosts, octets, phrase, whole_line};
+use crate::words::{hosts, octets, phrase, push_line};
 use ft_base::{Bytes, Decision, HostNo, Ignored, Members, Name, NoMemory, Tick, Version};
 use giop_messages::Why;
 use group_model::ManageFault;
 use std::alloc::Global;
 
+// Most reports have two or three lines.
+const REPORT_ROOM: usize = 128;
+
 fn view_line(
+    text: &mut Vec<u8>,
     alloc: Global,
     group: &Name,
     version: Version,
     members: &Members,
     primary: Option<HostNo>,
-) -> Result<Bytes, NoMemory>
-    ensures { IfOk result (λ bytes. bytes ≡ report_text (ReportLine.View group.now version members.now primary)) }
+) -> Result<(), NoMemory>
+    ensures { OnOk result (text.new.items ≡ text.old.items ++ report_text (ReportLine.View group.now version members.now primary)) }
 {
     let members = hosts(alloc, members)?;
-    whole_line(
-        alloc,
+    push_line(
+        text,
         &[
             Fixed(b"view"),
             Text(group.bytes()),
@@ -41,16 +45,17 @@ fn view_line(
 }
 
 fn attempt_line(
+    text: &mut Vec<u8>,
     alloc: Global,
     message: u64,
     client: &Name,
     host: HostNo,
     id: u32,
-) -> Result<Bytes, NoMemory>
-    ensures { IfOk result (λ bytes. bytes ≡ report_text (ReportLine.Attempt message client.now host id)) }
+) -> Result<(), NoMemory>
+    ensures { OnOk result (text.new.items ≡ text.old.items ++ report_text (ReportLine.Attempt message client.now host id)) }
 {
-    whole_line(
-        alloc,
+    push_line(
+        text,
         &[
             Fixed(b"msg"),
             Number(message),
@@ -65,18 +70,19 @@ fn attempt_line(
 }
 
 fn reply_line(
+    text: &mut Vec<u8>,
     alloc: Global,
     message: u64,
     host: HostNo,
     client: &Name,
     id: u32,
     shown: &ReportOutcome,
-) -> Result<Bytes, NoMemory>
-    ensures { IfOk result (λ bytes. bytes ≡ report_text (ReportLine.Reply message host client.now id shown.now)) }
+) -> Result<(), NoMemory>
+    ensures { OnOk result (text.new.items ≡ text.old.items ++ report_text (ReportLine.Reply message host client.now id shown.now)) }
 {
     let shown = outcome_bytes(alloc, shown)?;
-    whole_line(
-        alloc,
+    push_line(
+        text,
         &[
             Fixed(b"msg"),
             Number(message),
@@ -91,12 +97,18 @@ fn reply_line(
     )
 }
 
-fn at_line(alloc: Global, host: HostNo, group: &Name, decision: Decision) -> Result<Bytes, NoMemory>
-    ensures { IfOk result (λ bytes. bytes ≡ report_text (ReportLine.At host group.now decision)) }
+fn at_line(
+    text: &mut Vec<u8>,
+    alloc: Global,
+    host: HostNo,
+    group: &Name,
+    decision: Decision,
+) -> Result<(), NoMemory>
+    ensures { OnOk result (text.new.items ≡ text.old.items ++ report_text (ReportLine.At host group.now decision)) }
 {
     let decision = decision_bytes(alloc, decision)?;
-    whole_line(
-        alloc,
+    push_line(
+        text,
         &[
             Fixed(b"at"),
             Number(u64::from(host.0)),
@@ -106,12 +118,18 @@ fn at_line(alloc: Global, host: HostNo, group: &Name, decision: Decision) -> Res
     )
 }
 
-fn done_line(alloc: Global, client: &Name, call: u32, end: &CallEnd) -> Result<Bytes, NoMemory>
-    ensures { IfOk result (λ bytes. bytes ≡ report_text (ReportLine.Done client.now call end.now)) }
+fn done_line(
+    text: &mut Vec<u8>,
+    alloc: Global,
+    client: &Name,
+    call: u32,
+    end: &CallEnd,
+) -> Result<(), NoMemory>
+    ensures { OnOk result (text.new.items ≡ text.old.items ++ report_text (ReportLine.Done client.now call end.now)) }
 {
     let end = end_bytes(alloc, end)?;
-    whole_line(
-        alloc,
+    push_line(
+        text,
         &[
             Fixed(b"done"),
             Text(client.bytes()),
@@ -123,16 +141,17 @@ fn done_line(alloc: Global, client: &Name, call: u32, end: &CallEnd) -> Result<B
 
 // A message to a host: the words that stand before the host's number, and what it is told.
 fn told_line(
+    text: &mut Vec<u8>,
     alloc: Global,
     message: u64,
     way: &'static [u8],
     host: HostNo,
     told: &Bytes,
-) -> Result<Bytes, NoMemory>
-    ensures { IfOk result (λ bytes. bytes ≡ line (codes "msg" ∷ decimal message ∷ way.now ∷ decimal host.0 ∷ told.now ∷ [])) }
+) -> Result<(), NoMemory>
+    ensures { OnOk result (text.new.items ≡ text.old.items ++ line (codes "msg" ∷ decimal message ∷ way.now ∷ decimal host.0 ∷ told.now ∷ [])) }
 {
-    whole_line(
-        alloc,
+    push_line(
+        text,
         &[
             Fixed(b"msg"),
             Number(message),
@@ -144,16 +163,17 @@ fn told_line(
 }
 
 fn view_message_line(
+    text: &mut Vec<u8>,
     alloc: Global,
     message: u64,
     host: HostNo,
     group: &Name,
     version: Version,
-) -> Result<Bytes, NoMemory>
-    ensures { IfOk result (λ bytes. bytes ≡ report_text (ReportLine.ViewMessage message host group.now version)) }
+) -> Result<(), NoMemory>
+    ensures { OnOk result (text.new.items ≡ text.old.items ++ report_text (ReportLine.ViewMessage message host group.now version)) }
 {
     let view = with_version(alloc, b"view", group, version)?;
-    told_line(alloc, message, b"manager to host", host, &view)
+    told_line(text, alloc, message, b"manager to host", host, &view)
 }
 
 // A message from one host to another.
@@ -173,11 +193,17 @@ fn between_hosts(alloc: Global, message: u64, from: HostNo, to: HostNo) -> Resul
     )
 }
 
-fn state_line(alloc: Global, way: &Bytes, group: &Name, position: u32) -> Result<Bytes, NoMemory>
-    ensures { IfOk result (λ bytes. bytes ≡ line (way.now ∷ codes "state" ∷ group.now ∷ decimal position ∷ [])) }
+fn state_line(
+    text: &mut Vec<u8>,
+    alloc: Global,
+    way: &Bytes,
+    group: &Name,
+    position: u32,
+) -> Result<(), NoMemory>
+    ensures { OnOk result (text.new.items ≡ text.old.items ++ line (way.now ∷ codes "state" ∷ group.now ∷ decimal position ∷ [])) }
 {
-    whole_line(
-        alloc,
+    push_line(
+        text,
         &[
             Made(way.bytes()),
             Fixed(b"state"),
@@ -188,16 +214,17 @@ fn state_line(alloc: Global, way: &Bytes, group: &Name, position: u32) -> Result
 }
 
 fn update_line(
+    text: &mut Vec<u8>,
     alloc: Global,
     way: &Bytes,
     group: &Name,
     base: u32,
     position: u32,
-) -> Result<Bytes, NoMemory>
-    ensures { IfOk result (λ bytes. bytes ≡ line (way.now ∷ codes "update" ∷ group.now ∷ decimal base ∷ decimal position ∷ [])) }
+) -> Result<(), NoMemory>
+    ensures { OnOk result (text.new.items ≡ text.old.items ++ line (way.now ∷ codes "update" ∷ group.now ∷ decimal base ∷ decimal position ∷ [])) }
 {
-    whole_line(
-        alloc,
+    push_line(
+        text,
         &[
             Made(way.bytes()),
             Fixed(b"update"),
@@ -208,11 +235,17 @@ fn update_line(
     )
 }
 
-fn order_line(alloc: Global, way: &Bytes, group: &Name, index: u32) -> Result<Bytes, NoMemory>
-    ensures { IfOk result (λ bytes. bytes ≡ line (way.now ∷ codes "order" ∷ group.now ∷ decimal index ∷ [])) }
+fn order_line(
+    text: &mut Vec<u8>,
+    alloc: Global,
+    way: &Bytes,
+    group: &Name,
+    index: u32,
+) -> Result<(), NoMemory>
+    ensures { OnOk result (text.new.items ≡ text.old.items ++ line (way.now ∷ codes "order" ∷ group.now ∷ decimal index ∷ [])) }
 {
-    whole_line(
-        alloc,
+    push_line(
+        text,
         &[
             Made(way.bytes()),
             Fixed(b"order"),
@@ -222,11 +255,17 @@ fn order_line(alloc: Global, way: &Bytes, group: &Name, index: u32) -> Result<By
     )
 }
 
-fn held_line(alloc: Global, message: u64, index: u32, position: u32) -> Result<Bytes, NoMemory>
-    ensures { IfOk result (λ bytes. bytes ≡ report_text (ReportLine.Held message index position)) }
+fn held_line(
+    text: &mut Vec<u8>,
+    alloc: Global,
+    message: u64,
+    index: u32,
+    position: u32,
+) -> Result<(), NoMemory>
+    ensures { OnOk result (text.new.items ≡ text.old.items ++ report_text (ReportLine.Held message index position)) }
 {
-    whole_line(
-        alloc,
+    push_line(
+        text,
         &[
             Fixed(b"held"),
             Number(message),
@@ -239,15 +278,16 @@ fn held_line(alloc: Global, message: u64, index: u32, position: u32) -> Result<B
 }
 
 fn known_line(
+    text: &mut Vec<u8>,
     alloc: Global,
     host: HostNo,
     group: &Name,
     version: Version,
-) -> Result<Bytes, NoMemory>
-    ensures { IfOk result (λ bytes. bytes ≡ report_text (ReportLine.Known host group.now version)) }
+) -> Result<(), NoMemory>
+    ensures { OnOk result (text.new.items ≡ text.old.items ++ report_text (ReportLine.Known host group.now version)) }
 {
-    whole_line(
-        alloc,
+    push_line(
+        text,
         &[
             Fixed(b"known"),
             Number(u64::from(host.0)),
@@ -257,26 +297,32 @@ fn known_line(
     )
 }
 
-fn ignored_line(alloc: Global, message: u64, why: Ignored) -> Result<Bytes, NoMemory>
-    ensures { IfOk result (λ bytes. bytes ≡ report_text (ReportLine.Ignored message why)) }
+fn ignored_line(
+    text: &mut Vec<u8>,
+    alloc: Global,
+    message: u64,
+    why: Ignored,
+) -> Result<(), NoMemory>
+    ensures { OnOk result (text.new.items ≡ text.old.items ++ report_text (ReportLine.Ignored message why)) }
 {
     let why = ignored_bytes(alloc, why)?;
-    whole_line(
-        alloc,
+    push_line(
+        text,
         &[Fixed(b"ignored"), Number(message), Made(why.bytes())],
     )
 }
 
 fn adopted_line<'a>(
+    text: &mut Vec<u8>,
     alloc: Global,
     client: &'a Name,
     group: &'a Name,
     version: Version,
-) -> Result<Bytes, NoMemory>
-    ensures { IfOk result (λ bytes. bytes ≡ report_text (ReportLine.Adopted client.now group.now version)) }
+) -> Result<(), NoMemory>
+    ensures { OnOk result (text.new.items ≡ text.old.items ++ report_text (ReportLine.Adopted client.now group.now version)) }
 {
-    whole_line(
-        alloc,
+    push_line(
+        text,
         &[
             Fixed(b"adopt"),
             Text(client.bytes()),
@@ -286,25 +332,26 @@ fn adopted_line<'a>(
     )
 }
 
-fn refused_line(alloc: Global, fault: ManageFault) -> Result<Bytes, NoMemory>
-    ensures { IfOk result (λ bytes. bytes ≡ report_text (ReportLine.Refused fault)) }
+fn refused_line(text: &mut Vec<u8>, alloc: Global, fault: ManageFault) -> Result<(), NoMemory>
+    ensures { OnOk result (text.new.items ≡ text.old.items ++ report_text (ReportLine.Refused fault)) }
 {
     let fault = refusal_bytes(alloc, fault)?;
-    whole_line(alloc, &[Fixed(b"refused"), Made(fault.bytes())])
+    push_line(text, &[Fixed(b"refused"), Made(fault.bytes())])
 }
 
 fn show_line(
+    text: &mut Vec<u8>,
     alloc: Global,
     group: &Name,
     version: Version,
     entries: u32,
     mark: u32,
     time: Tick,
-) -> Result<Bytes, NoMemory>
-    ensures { IfOk result (λ bytes. bytes ≡ report_text (ReportLine.Show group.now version entries mark time)) }
+) -> Result<(), NoMemory>
+    ensures { OnOk result (text.new.items ≡ text.old.items ++ report_text (ReportLine.Show group.now version entries mark time)) }
 {
-    whole_line(
-        alloc,
+    push_line(
+        text,
         &[
             Fixed(b"show"),
             Text(group.bytes()),
@@ -321,16 +368,17 @@ fn show_line(
 }
 
 fn member_line(
+    text: &mut Vec<u8>,
     alloc: Global,
     host: HostNo,
     role: Role,
     standing: &Standing,
-) -> Result<Bytes, NoMemory>
-    ensures { IfOk result (λ bytes. bytes ≡ report_text (ReportLine.Member host role standing.now)) }
+) -> Result<(), NoMemory>
+    ensures { OnOk result (text.new.items ≡ text.old.items ++ report_text (ReportLine.Member host role standing.now)) }
 {
     let standing = standing_bytes(alloc, standing)?;
-    whole_line(
-        alloc,
+    push_line(
+        text,
         &[
             Fixed(b"member"),
             Number(u64::from(host.0)),
@@ -340,27 +388,27 @@ fn member_line(
     )
 }
 
-fn no_group_line(alloc: Global, host: HostNo) -> Result<Bytes, NoMemory>
-    ensures { IfOk result (λ bytes. bytes ≡ report_text (ReportLine.NoGroup host)) }
+fn no_group_line(text: &mut Vec<u8>, alloc: Global, host: HostNo) -> Result<(), NoMemory>
+    ensures { OnOk result (text.new.items ≡ text.old.items ++ report_text (ReportLine.NoGroup host)) }
 {
-    whole_line(
-        alloc,
+    push_line(
+        text,
         &[Fixed(b"at"), Number(u64::from(host.0)), Fixed(b"- nogroup")],
     )
 }
 
-fn bytes_line(alloc: Global, written: &Bytes) -> Result<Bytes, NoMemory>
-    ensures { IfOk result (λ bytes. bytes ≡ report_text (ReportLine.Bytes written.now)) }
+fn bytes_line(text: &mut Vec<u8>, alloc: Global, written: &Bytes) -> Result<(), NoMemory>
+    ensures { OnOk result (text.new.items ≡ text.old.items ++ report_text (ReportLine.Bytes written.now)) }
 {
     let written = octets(alloc, written)?;
-    whole_line(alloc, &[Fixed(b"bytes"), Made(written.bytes())])
+    push_line(text, &[Fixed(b"bytes"), Made(written.bytes())])
 }
 
-fn malformed_line(alloc: Global, why: Why, place: u32) -> Result<Bytes, NoMemory>
-    ensures { IfOk result (λ bytes. bytes ≡ report_text (ReportLine.LinkMalformed why place)) }
+fn malformed_line(text: &mut Vec<u8>, alloc: Global, why: Why, place: u32) -> Result<(), NoMemory>
+    ensures { OnOk result (text.new.items ≡ text.old.items ++ report_text (ReportLine.LinkMalformed why place)) }
 {
-    whole_line(
-        alloc,
+    push_line(
+        text,
         &[
             Fixed(b"link malformed"),
             Fixed(why_bytes(why)),
@@ -369,44 +417,44 @@ fn malformed_line(alloc: Global, why: Why, place: u32) -> Result<Bytes, NoMemory
     )
 }
 
-/// A line's bytes, with its LF.
-pub fn render(alloc: Global, line: &ReportLine) -> Result<Bytes, NoMemory>
-    ensures { IfOk result (λ bytes. bytes ≡ report_text line.now) }
+/// Writes a line, with its LF.
+pub fn write_line(text: &mut Vec<u8>, alloc: Global, line: &ReportLine) -> Result<(), NoMemory>
+    ensures { OnOk result (text.new.items ≡ text.old.items ++ report_text line.now) }
 {
     match line {
         ReportLine::Group { name, id } => {
-            whole_line(alloc, &[Fixed(b"group"), Text(name.bytes()), Number(id.0)])
+            push_line(text, &[Fixed(b"group"), Text(name.bytes()), Number(id.0)])
         }
         ReportLine::View {
             group,
             version,
             members,
             primary,
-        } => view_line(alloc, group, *version, members, *primary),
+        } => view_line(text, alloc, group, *version, members, *primary),
         ReportLine::Attempt {
             message,
             client,
             host,
             id,
-        } => attempt_line(alloc, *message, client, *host, *id),
+        } => attempt_line(text, alloc, *message, client, *host, *id),
         ReportLine::Reply {
             message,
             host,
             client,
             id,
             shown,
-        } => reply_line(alloc, *message, *host, client, *id, shown),
+        } => reply_line(text, alloc, *message, *host, client, *id, shown),
         ReportLine::At {
             host,
             group,
             decision,
-        } => at_line(alloc, *host, group, *decision),
+        } => at_line(text, alloc, *host, group, *decision),
         ReportLine::ViewMessage {
             message,
             host,
             group,
             version,
-        } => view_message_line(alloc, *message, *host, group, *version),
+        } => view_message_line(text, alloc, *message, *host, group, *version),
         ReportLine::StateMessage {
             message,
             from,
@@ -415,7 +463,7 @@ pub fn render(alloc: Global, line: &ReportLine) -> Result<Bytes, NoMemory>
             position,
         } => {
             let way = between_hosts(alloc, *message, *from, *to)?;
-            state_line(alloc, &way, group, *position)
+            state_line(text, alloc, &way, group, *position)
         }
         ReportLine::UpdateMessage {
             message,
@@ -426,7 +474,7 @@ pub fn render(alloc: Global, line: &ReportLine) -> Result<Bytes, NoMemory>
             position,
         } => {
             let way = between_hosts(alloc, *message, *from, *to)?;
-            update_line(alloc, &way, group, *base, *position)
+            update_line(text, alloc, &way, group, *base, *position)
         }
         ReportLine::OrderMessage {
             message,
@@ -436,10 +484,10 @@ pub fn render(alloc: Global, line: &ReportLine) -> Result<Bytes, NoMemory>
             index,
         } => {
             let way = between_hosts(alloc, *message, *from, *to)?;
-            order_line(alloc, &way, group, *index)
+            order_line(text, alloc, &way, group, *index)
         }
-        ReportLine::Applied { message, position } => whole_line(
-            alloc,
+        ReportLine::Applied { message, position } => push_line(
+            text,
             &[
                 Fixed(b"applied"),
                 Number(*message),
@@ -451,52 +499,52 @@ pub fn render(alloc: Global, line: &ReportLine) -> Result<Bytes, NoMemory>
             message,
             index,
             position,
-        } => held_line(alloc, *message, *index, *position),
+        } => held_line(text, alloc, *message, *index, *position),
         ReportLine::Known {
             host,
             group,
             version,
-        } => known_line(alloc, *host, group, *version),
-        ReportLine::Lost { message } => whole_line(alloc, &[Fixed(b"lost"), Number(*message)]),
+        } => known_line(text, alloc, *host, group, *version),
+        ReportLine::Lost { message } => push_line(text, &[Fixed(b"lost"), Number(*message)]),
         ReportLine::UnheardReply { message } => {
-            whole_line(
-                alloc,
+            push_line(
+                text,
                 &[Fixed(b"ignored"), Number(*message), Fixed(b"reply")],
             )
         }
-        ReportLine::Ignored { message, why } => ignored_line(alloc, *message, *why),
+        ReportLine::Ignored { message, why } => ignored_line(text, alloc, *message, *why),
         ReportLine::Adopted {
             client,
             group,
             version,
-        } => adopted_line(alloc, client, group, *version),
-        ReportLine::Done { client, call, end } => done_line(alloc, client, *call, end),
-        ReportLine::Busy { client } => whole_line(alloc, &[Fixed(b"busy"), Text(client.bytes())]),
+        } => adopted_line(text, alloc, client, group, *version),
+        ReportLine::Done { client, call, end } => done_line(text, alloc, client, *call, end),
+        ReportLine::Busy { client } => push_line(text, &[Fixed(b"busy"), Text(client.bytes())]),
         ReportLine::Down { host } => {
-            whole_line(alloc, &[Fixed(b"down"), Number(u64::from(host.0))])
+            push_line(text, &[Fixed(b"down"), Number(u64::from(host.0))])
         }
-        ReportLine::Up { host } => whole_line(alloc, &[Fixed(b"up"), Number(u64::from(host.0))]),
-        ReportLine::Refused(fault) => refused_line(alloc, *fault),
+        ReportLine::Up { host } => push_line(text, &[Fixed(b"up"), Number(u64::from(host.0))]),
+        ReportLine::Refused(fault) => refused_line(text, alloc, *fault),
         ReportLine::Show {
             group,
             version,
             entries,
             mark,
             time,
-        } => show_line(alloc, group, *version, *entries, *mark, *time),
+        } => show_line(text, alloc, group, *version, *entries, *mark, *time),
         ReportLine::Member {
             host,
             role,
             standing,
-        } => member_line(alloc, *host, *role, standing),
-        ReportLine::NoGroup { host } => no_group_line(alloc, *host),
-        ReportLine::Bytes(written) => bytes_line(alloc, written),
-        ReportLine::LinkClosed => whole_line(alloc, &[Fixed(b"link closed")]),
-        ReportLine::LinkMalformed { why, place } => malformed_line(alloc, *why, *place),
+        } => member_line(text, alloc, *host, *role, standing),
+        ReportLine::NoGroup { host } => no_group_line(text, alloc, *host),
+        ReportLine::Bytes(written) => bytes_line(text, alloc, written),
+        ReportLine::LinkClosed => push_line(text, &[Fixed(b"link closed")]),
+        ReportLine::LinkMalformed { why, place } => malformed_line(text, alloc, *why, *place),
         ReportLine::LinkTooLarge(size) => {
-            whole_line(alloc, &[Fixed(b"link too-large"), Number(*size)])
+            push_line(text, &[Fixed(b"link too-large"), Number(*size)])
         }
-        ReportLine::LinkLost => whole_line(alloc, &[Fixed(b"link lost")]),
+        ReportLine::LinkLost => push_line(text, &[Fixed(b"link lost")]),
     }
 }
 
@@ -505,9 +553,9 @@ pub fn render_all(alloc: Global, lines: &ReportLines) -> Result<Bytes, NoMemory>
     ensures { IfOk result (λ bytes. bytes ≡ flat_map report_text lines.now) }
 {
     let mut text = Vec::new(alloc);
+    text.reserve(REPORT_ROOM)?;
     for line in lines.as_slice() {
-        let bytes = render(alloc, line)?;
-        text.extend_from_slice(bytes.bytes())?;
+        write_line(&mut text, alloc, line)?;
     }
     Ok(Bytes::from_vec(text))
 }

@@ -2,7 +2,7 @@ ghost use Rattle.std.specs.Prelude.{◌<◌, ◌^◌, length};
 ghost use Rattle.ft_base.specs.Canonical.{HasSpelling};
 
 use crate::outcomes::{ReportOutcome, Worth, worth_of};
-use crate::rendering::{render, render_all};
+use crate::rendering::{render_all, write_line};
 use crate::reports::{CallEnd, ReportLine, ReportLines, Role, Standing};
 use cdr_codec::canonical;
 use ft_base::{
@@ -335,8 +335,9 @@ fn own_ends(alloc: Global, rows: &mut Vec<Row>) -> Result<(), NoMemory> {
 }
 
 fn is_written(alloc: Global, line: &ReportLine, want: &str) -> Result<bool, NoMemory> {
-    let bytes = render(alloc, line)?;
-    Ok(bytes.bytes() == want.as_bytes())
+    let mut text = Vec::new(alloc);
+    write_line(&mut text, alloc, line)?;
+    Ok(text.as_slice() == want.as_bytes())
 }
 
 #[test]
@@ -754,9 +755,10 @@ fn long_lines(rt: HostRuntime) -> Result<(), NoMemory> {
     long_state(alloc, &mut lines)?;
     assert_eq!(rt; lines.len(), LONG.len());
     for (line, (before, part, count, after)) in lines.as_slice().iter().zip(&LONG) {
-        let bytes = render(alloc, line)?;
+        let mut text = Vec::new(alloc);
+        write_line(&mut text, alloc, line)?;
         let want = long_line(alloc, *before, *part, *count, *after)?;
-        assert!(rt; bytes.bytes() == want.as_slice(), "{before}");
+        assert!(rt; text.as_slice() == want.as_slice(), "{before}");
     }
     Ok(())
 }

@@ -6,6 +6,9 @@ use ft_base::{Bytes, HostNo, Members, NoMemory};
 use itoa::Buffer;
 use std::alloc::Global;
 
+// Most lines are no longer, and so are made in one piece of memory.
+const LINE_ROOM: usize = 64;
+
 /// One word of a line. Texts that the line holds and texts that are made for it live for different
 /// times.
 #[derive(Clone, Copy)]
@@ -48,18 +51,23 @@ fn push_each(text: &mut Vec<u8>, separator: u8, words: &[Word]) -> Result<(), No
     Ok(())
 }
 
+fn push_words(text: &mut Vec<u8>, separator: u8, words: &[Word]) -> Result<(), NoMemory>
+    ensures { OnOk result (text.new.items ≡ text.old.items ++ joined_text separator (map word_text words.now)) }
+{
+    if let Some((first, rest)) = words.split_first() {
+        push_word(text, first)?;
+        push_each(text, separator, rest)?;
+    }
+    Ok(())
+}
+
 fn join(alloc: Global, separator: u8, words: &[Word]) -> Result<Vec<u8>, NoMemory>
     ensures { IfOk result (λ text. text.items ≡ joined_text separator (map word_text words.now)) }
 {
     let mut text = Vec::new(alloc);
-    match words.split_first() {
-        None => Ok(text),
-        Some((first, rest)) => {
-            push_word(&mut text, first)?;
-            push_each(&mut text, separator, rest)?;
-            Ok(text)
-        }
-    }
+    text.reserve(LINE_ROOM)?;
+    push_words(&mut text, separator, words)?;
+    Ok(text)
 }
 
 /// The words, with a space between each two.
@@ -70,13 +78,13 @@ pub fn phrase(alloc: Global, words: &[Word]) -> Result<Bytes, NoMemory>
     Ok(Bytes::from_vec(text))
 }
 
-/// A line of the words, with its LF.
-pub fn whole_line(alloc: Global, words: &[Word]) -> Result<Bytes, NoMemory>
-    ensures { IfOk result (λ bytes. bytes ≡ line (map word_text words.now)) }
+/// Writes a line of the words, with its LF.
+pub fn push_line(text: &mut Vec<u8>, words: &[Word]) -> Result<(), NoMemory>
+    ensures { OnOk result (text.new.items ≡ text.old.items ++ line (map word_text words.now)) }
 {
-    let mut text = join(alloc, b' ', words)?;
+    push_words(text, b' ', words)?;
     text.push(b'\n')?;
-    Ok(Bytes::from_vec(text))
+    Ok(())
 }
 
 fn host_words(alloc: Global, hosts: &[u8]) -> Result<Vec<Word<'static, 'static>>, NoMemory>

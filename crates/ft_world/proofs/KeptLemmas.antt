@@ -1,8 +1,9 @@
--- What every line leaves of a world: of all of its groups, what no event takes from a group; the clock goes on by
--- less than 2^32, and each client begins one invocation at most.
+-- What every line leaves of a world: each group, which may have had more events, and the servant calls of these;
+-- the clock goes on by less than 2^32, and each client begins one invocation at most.
 use Rattle.std.proofs.Common.{◌≡◌, ℕ, zero, suc, ◌+◌, ◌<◌, ◌≤◌, ◌^◌, arith, Bool, true, false, List, [], ◌∷◌, ◌++◌, Option, Some, None, Result, Ok, Err, refl, sym, ap, subst, ◌∙◌}
 use Rattle.std.specs.Prelude.{◌==◌, ◌-◌, if◌then◌else◌, option_map, slice_get, slice_set}
 use Rattle.std.specs.List.{AllByRecursion}
+use Rattle.std.proofs.lemmas.List.Sums.{sum_by-cons}
 use Rattle.ft_base.specs.declared.decisions.Stop.{Stop}
 use Rattle.ft_base.specs.declared.numbers.GroupId.{GroupId}
 use Rattle.ft_base.specs.declared.numbers.HostNo.{HostNo}
@@ -32,13 +33,14 @@ use Rattle.group_model.specs.Views.{host_no}
 use Rattle.group_references.specs.Ports.{host_at}
 use Rattle.iogr_reference.specs.Choices.{group_of_key}
 use Rattle.link_session.specs.Amid.{Grows, session_grows}
+use Rattle.link_session.specs.Ports.{linked}
 use Rattle.script_clients.specs.declared.answers.Attempt.{Attempt}
 use Rattle.script_clients.specs.declared.answers.Call.{Call}
 use Rattle.script_clients.specs.declared.answers.Told.{Told}
 use Rattle.script_clients.specs.declared.answers.Told.TheVariants as tolds
 use Rattle.script_clients.specs.Clients.{Client, Turn as Turned, hearing, going_on, new_client, taking}
 use Rattle.script_groups.specs.Acting.{IsKept}
-use Rattle.script_groups.specs.Groups.{ScriptGroup, Placed, acted, all_acted, found, group_named, group_numbered, machine_of, opened, placed, signature_of, turn}
+use Rattle.script_groups.specs.Groups.{ScriptGroup, Placed, acted, all_acted, servant_calls, with_more, found, group_named, group_numbered, machine_of, opened, placed, signature_of, turn}
 use Rattle.shipped_servants.specs.declared.kinds.Kind.{Kind}
 use Rattle.script_world.specs.declared.hosts.HostState.{HostState}
 use Rattle.script_world.specs.declared.messages.Message.{Message}
@@ -52,11 +54,13 @@ use Rattle.ft_world.specs.Clients.{attempted, begun, call_by, call_from, call_sa
 use Rattle.ft_world.specs.Delivering.{answered, arrives, asker_of, brought_to, delivered, heard_by, heard_of, requested, request_event}
 use Rattle.ft_world.specs.declared.deliveries.Asker.{Asker}
 use Rattle.ft_world.specs.Hosts.{change_of, change_to, changed, changes_members, crash_line, host_causes, restart_line, show_found, started_again, stopped}
-use Rattle.ft_world.specs.Laws.{AllLater}
+use Rattle.ft_world.specs.Laws.{AllLater, HasMore, calls_of_groups}
+use Rattle.script_groups.specs.Laws.{CallsGoOn, NoneCalledYet}
 use Rattle.ft_world.specs.Lines.{IsTimely}
-use Rattle.ft_world.specs.Links.{answered_by, ask_group, asked_event, group_by, group_keyed, inject_line, link_of, world_port}
+use Rattle.ft_world.specs.Links.{answered_by, ask_group, asked_event, group_by, group_keyed, inject_line, link_of, world_port, written}
 use Rattle.ft_world.specs.Making.{client_causes, client_line, group_causes, group_line, hosts_causes, hosts_line, kind_of, made_group, new_group, next_id, stopped_from, stopped_if}
 use Rattle.ft_world.specs.Printed.{gives_of}
+use Rattle.ft_world.specs.Sending.{all_carried}
 use Rattle.ft_world.specs.Turns.{Effect, Turn, Goes, Refused, first_cause, goes, judged, says, total_causes, totals_of, unless}
 
 -- ---- elements of lists
@@ -139,77 +143,142 @@ more_few : (lines : ℕ) (cs : List Client) → AreFew lines cs → AreFew (line
 more_few lines [] few = tt
 more_few lines (c ∷ cs) few = ((omega (arith, few.0.0), omega (arith, few.0.1)), more_few lines cs few.1)
 
--- What no event takes from a group, and each has at its opening; how a group stands to itself after more events;
--- and what says of a line that its ticks are few.
-module _ (P : ScriptGroup → Type 0) (acts : (g : ScriptGroup) (e : Event) → P g → P (acted g e))
-    (opens : (id : GroupId) (name : List ℕ) (kind : Kind) (style : Style) (members : List ℕ) → P (opened id name kind style members))
-    (R : ScriptGroup → ScriptGroup → Type 0) (stays : (g : ScriptGroup) → R g g) (next : (f g h : ScriptGroup) → R f g → R g h → R f h)
-    (goes_on : (g : ScriptGroup) (e : Event) → R g (acted g e)) (T : Type 0) where
-  -- ---- groups, each of which may have had more events, and others behind them
+-- ---- groups, each of which may have had more events, and others behind them
 
-  all_stay : (gs : List ScriptGroup) → AllLater R gs gs
-  all_stay [] = tt
-  all_stay (g ∷ gs) = (stays g, all_stay gs)
+events_on : (es fs gs : List Event) → (es ++ fs) ++ gs ≡ es ++ (fs ++ gs)
+events_on [] fs gs = refl
+events_on (e ∷ es) fs gs = ap (λ (rest : List Event). e ∷ rest) (events_on es fs gs)
 
-  all_next : (fs gs hs : List ScriptGroup) → AllLater R fs gs → AllLater R gs hs → AllLater R fs hs
-  all_next [] gs hs a b = tt
-  all_next (f ∷ fs) [] hs a b = absurd a
-  all_next (f ∷ fs) (g ∷ gs) [] a b = absurd b
-  all_next (f ∷ fs) (g ∷ gs) (h ∷ hs) a b = (next f g h a.0 b.0, all_next fs gs hs a.1 b.1)
+none_behind : (es : List Event) → es ≡ es ++ []
+none_behind [] = refl
+none_behind (e ∷ es) = ap (λ (rest : List Event). e ∷ rest) (none_behind es)
 
-  one_later : (gs : List ScriptGroup) (i : ℕ) (g : ScriptGroup) (e : Event) → slice_get gs i ≡ Some g → AllLater R gs (slice_set gs i (acted g e))
-  one_later [] i g e at = tt
-  one_later (x ∷ gs) zero g e at = (subst (λ (y : ScriptGroup). R y (acted g e)) (sym (same_some x g at)) (goes_on g e), all_stay gs)
-  one_later (x ∷ gs) (suc i) g e at = (stays x, one_later gs i g e at)
+no_more : (g : ScriptGroup) → HasMore g g
+no_more g = record { more = []; is = ap (λ (es : List Event). record g { events = es }) (none_behind g.events) }
 
-  each_later : (e : Event) (gs : List ScriptGroup) → AllLater R gs (all_acted e gs)
-  each_later e [] = tt
-  each_later e (g ∷ gs) = (goes_on g e, each_later e gs)
+one_more_event : (g : ScriptGroup) (e : Event) → HasMore g (acted g e)
+one_more_event g e = record { more = e ∷ []; is = refl }
 
-  one_behind : (gs : List ScriptGroup) (g : ScriptGroup) → AllLater R gs (gs ++ g ∷ [])
-  one_behind [] g = tt
-  one_behind (x ∷ gs) g = (stays x, one_behind gs g)
+more_on : (f g h : ScriptGroup) → HasMore f g → HasMore g h → HasMore f h
+more_on f g h a b = record {
+  more = a.more ++ b.more;
+  is = b.is ∙ ap (λ (x : ScriptGroup). with_more x b.more) a.is ∙ ap (λ (es : List Event). record f { events = es }) (events_on f.events a.more b.more);
+}
 
-  -- ---- two worlds, the second behind the first
+pub all_stay : (gs : List ScriptGroup) → AllLater HasMore gs gs
+all_stay [] = tt
+all_stay (g ∷ gs) = (no_more g, all_stay gs)
 
-  -- no time goes by, and no client begins an invocation
-  record Keeps (w new : World) : Type 0 where
-    groups : AllByRecursion P w.groups → AllByRecursion P new.groups
-    later : AllLater R w.groups new.groups
-    clock : new.clock ≡ w.clock
-    few : (lines : ℕ) → AreFew lines w.clients → AreFew lines new.clients
+pub all_next : (fs gs hs : List ScriptGroup) → AllLater HasMore fs gs → AllLater HasMore gs hs → AllLater HasMore fs hs
+all_next [] gs hs a b = tt
+all_next (f ∷ fs) [] hs a b = absurd a
+all_next (f ∷ fs) (g ∷ gs) [] a b = absurd b
+all_next (f ∷ fs) (g ∷ gs) (h ∷ hs) a b = (more_on f g h a.0 b.0, all_next fs gs hs a.1 b.1)
 
+one_later : (gs : List ScriptGroup) (i : ℕ) (g : ScriptGroup) (e : Event) → slice_get gs i ≡ Some g → AllLater HasMore gs (slice_set gs i (acted g e))
+one_later [] i g e at = tt
+one_later (x ∷ gs) zero g e at = (subst (λ (y : ScriptGroup). HasMore y (acted g e)) (sym (same_some x g at)) (one_more_event g e), all_stay gs)
+one_later (x ∷ gs) (suc i) g e at = (no_more x, one_later gs i g e at)
+
+each_later : (e : Event) (gs : List ScriptGroup) → AllLater HasMore gs (all_acted e gs)
+each_later e [] = tt
+each_later e (g ∷ gs) = (one_more_event g e, each_later e gs)
+
+one_behind : (gs : List ScriptGroup) (g : ScriptGroup) → AllLater HasMore gs (gs ++ g ∷ [])
+one_behind [] g = tt
+one_behind (x ∷ gs) g = (no_more x, one_behind gs g)
+
+-- ---- their servant calls
+
+module _ (calls_go_on : CallsGoOn) where
+  one_called : (gs : List ScriptGroup) (i : ℕ) (g : ScriptGroup) (e : Event) → slice_get gs i ≡ Some g →
+      calls_of_groups (slice_set gs i (acted g e)) ≡ calls_of_groups gs + (turn g e).calls
+  one_called [] i g e at = absurd cc
+  one_called (x ∷ gs) zero g e at =
+      let here = calls_go_on g e in
+      let same = ap servant_calls (same_some x g at) in
+      omega (arith, here, same, sum_by-cons servant_calls (acted g e) gs, sum_by-cons servant_calls x gs)
+  one_called (x ∷ gs) (suc i) g e at =
+      let there = one_called gs i g e at in
+      omega (arith, there, sum_by-cons servant_calls x gs, sum_by-cons servant_calls x (slice_set gs i (acted g e)))
+
+  -- an event at every group that calls no servant
+  none_called : (e : Event) → ((g : ScriptGroup) → (turn g e).calls ≡ 0) → (gs : List ScriptGroup) → calls_of_groups (all_acted e gs) ≡ calls_of_groups gs
+  none_called e none [] = refl
+  none_called e none (g ∷ gs) =
+      let here = calls_go_on g e in
+      let there = none_called e none gs in
+      omega (arith, here, none g, there, sum_by-cons servant_calls (acted g e) (all_acted e gs), sum_by-cons servant_calls g gs)
+
+one_behind_called : (gs : List ScriptGroup) (g : ScriptGroup) → calls_of_groups (gs ++ g ∷ []) ≡ calls_of_groups gs + servant_calls g
+one_behind_called [] g = omega (arith, sum_by-cons servant_calls g [])
+one_behind_called (x ∷ gs) g =
+    let there = one_behind_called gs g in
+    omega (arith, there, sum_by-cons servant_calls x gs, sum_by-cons servant_calls x (gs ++ g ∷ []))
+
+-- ---- two worlds, the second behind the first by so many servant calls
+
+-- no time goes by, and no client begins an invocation
+record Keeps (w new : World) (calls : ℕ) : Type 0 where
+  groups : AllByRecursion IsKept w.groups → AllByRecursion IsKept new.groups
+  later : AllLater HasMore w.groups new.groups
+  called : CallsGoOn → NoneCalledYet → calls_of_groups new.groups ≡ calls_of_groups w.groups + calls
+  clock : new.clock ≡ w.clock
+  few : (lines : ℕ) → AreFew lines w.clients → AreFew lines new.clients
+
+abbrev Makes : World → Effect → Type 0
+Makes w e = Keeps w e.world e.calls
+
+-- T says of a line that its ticks are few.
+module _ (T : Type 0) where
   -- a line lies between them
-  pub record Follows (w new : World) : Type 0 where
-    pub groups : AllByRecursion P w.groups → AllByRecursion P new.groups
-    pub later : AllLater R w.groups new.groups
+  pub record Follows (w new : World) (calls : ℕ) : Type 0 where
+    pub groups : AllByRecursion IsKept w.groups → AllByRecursion IsKept new.groups
+    pub later : AllLater HasMore w.groups new.groups
+    pub called : CallsGoOn → NoneCalledYet → calls_of_groups new.groups ≡ calls_of_groups w.groups + calls
     pub acted : T → (lines : ℕ) → HasActed w lines → HasActed new (lines + 1)
 
-  same : (w : World) → Keeps w w
-  same w = record { groups = λ all. all; later = all_stay w.groups; clock = refl; few = λ lines f. f }
+  -- the groups are as they were
+  untouched : (w new : World) → new.groups ≡ w.groups → new.clock ≡ w.clock → ((lines : ℕ) → AreFew lines w.clients → AreFew lines new.clients) → Keeps w new 0
+  untouched w new groups clock few = record {
+    groups = λ all. subst (AllByRecursion IsKept) (sym groups) all;
+    later = subst (AllLater HasMore w.groups) (sym groups) (all_stay w.groups);
+    called = λ go none. let same = ap calls_of_groups groups in omega (arith, same);
+    clock = clock;
+    few = few;
+  }
 
-  behind : (w v new : World) → Keeps w v → Keeps v new → Keeps w new
-  behind w v new a b = record {
+  same : (w : World) → Keeps w w 0
+  same w = untouched w w refl refl (λ lines f. f)
+
+  behind : (w v new : World) (m n : ℕ) → Keeps w v m → Keeps v new n → Keeps w new (m + n)
+  behind w v new m n a b = record {
     groups = λ all. b.groups (a.groups all);
     later = all_next w.groups v.groups new.groups a.later b.later;
+    called = λ go none. let first = a.called go none in let second = b.called go none in omega (arith, first, second);
     clock = b.clock ∙ a.clock;
     few = λ lines f. b.few lines (a.few lines f);
   }
 
-  begins_none : (w new : World) → Keeps w new → Follows w new
-  begins_none w new keeps = record {
+  as_many : (w new : World) (m n : ℕ) → m ≡ n → Keeps w new m → Keeps w new n
+  as_many w new m n e keeps = subst (Keeps w new) e keeps
+
+  begins_none : (w new : World) (calls : ℕ) → Keeps w new calls → Follows w new calls
+  begins_none w new calls keeps = record {
     groups = keeps.groups;
     later = keeps.later;
+    called = keeps.called;
     acted = λ t lines h. record {
       clock = omega (arith, keeps.clock, h.clock);
       started = more_few lines new.clients (keeps.few lines h.started);
     };
   }
 
-  follows_then : (w v new : World) → Follows w v → Keeps v new → Follows w new
-  follows_then w v new a b = record {
+  follows_then : (w v new : World) (calls : ℕ) → Follows w v 0 → Keeps v new calls → Follows w new calls
+  follows_then w v new calls a b = record {
     groups = λ all. b.groups (a.groups all);
     later = all_next w.groups v.groups new.groups a.later b.later;
+    called = λ go none. let first = a.called go none in let second = b.called go none in omega (arith, first, second);
     acted = λ t lines h. let g = a.acted t lines h in record {
       clock = omega (arith, b.clock, g.clock);
       started = b.few (lines + 1) g.started;
@@ -218,40 +287,49 @@ module _ (P : ScriptGroup → Type 0) (acts : (g : ScriptGroup) (e : Event) → 
 
   -- ---- small changes
 
-  more_sent : (w : World) (ms : List Message) → Keeps w (record w { messages = w.messages ++ ms })
-  more_sent w ms = record { groups = λ all. all; later = all_stay w.groups; clock = refl; few = λ lines f. f }
+  more_sent : (w : World) (ms : List Message) → Keeps w (record w { messages = w.messages ++ ms }) 0
+  more_sent w ms = untouched w (record w { messages = w.messages ++ ms }) refl refl (λ lines f. f)
 
-  all_hear : (e : Event) (gs : List ScriptGroup) → AllByRecursion P gs → AllByRecursion P (all_acted e gs)
+  all_hear : (e : Event) (gs : List ScriptGroup) → AllByRecursion IsKept gs → AllByRecursion IsKept (all_acted e gs)
   all_hear e [] all = tt
-  all_hear e (g ∷ gs) all = (acts g e all.0, all_hear e gs all.1)
+  all_hear e (g ∷ gs) all = (all.0, all_hear e gs all.1)
 
-  group_acts : (w : World) (p : Placed ScriptGroup) (e : Event) → IsOneOf w.groups (Some p) → Keeps w (with_event w p.place p.value e)
+  group_acts : (w : World) (p : Placed ScriptGroup) (e : Event) → IsOneOf w.groups (Some p) → Keeps w (with_event w p.place p.value e) (turn p.value e).calls
   group_acts w p e is = record {
-    groups = λ all. all_set P w.groups p.place (acted p.value e) all (acts p.value e (all_get P w.groups p.place p.value all is));
+    groups = λ all. all_set IsKept w.groups p.place (acted p.value e) all (all_get IsKept w.groups p.place p.value all is);
     later = one_later w.groups p.place p.value e is;
+    called = λ go none. one_called go w.groups p.place p.value e is;
     clock = refl;
     few = λ lines f. f;
   }
 
-  host_stops : (w : World) (host : HostNo) → Keeps w (stopped w host)
-  host_stops w host = record { groups = λ all. all_hear (events.Crash host) w.groups all; later = each_later (events.Crash host) w.groups; clock = refl; few = λ lines f. f }
-
-  host_starts : (w : World) (host : HostNo) → Keeps w (started_again w host)
-  host_starts w host = record { groups = λ all. all_hear (events.Restart host) w.groups all; later = each_later (events.Restart host) w.groups; clock = refl; few = λ lines f. f }
-
-  client_hears : (w : World) (i : ℕ) (c d : Client) → IsOf w.clients (Some c) → ((lines : ℕ) → Few lines c → Few lines d) → Keeps w (with_client w i d)
-  client_hears w i c d is hears = record {
-    groups = λ all. all;
-    later = all_stay w.groups;
+  host_stops : (w : World) (host : HostNo) → Keeps w (stopped w host) 0
+  host_stops w host = record {
+    groups = λ all. all_hear (events.Crash host) w.groups all;
+    later = each_later (events.Crash host) w.groups;
+    called = λ go none. let same = none_called go (events.Crash host) (λ g. refl) w.groups in omega (arith, same);
     clock = refl;
-    few = λ lines f. all_set (Few lines) w.clients i d f (hears lines (is (Few lines) f));
+    few = λ lines f. f;
   }
 
+  host_starts : (w : World) (host : HostNo) → Keeps w (started_again w host) 0
+  host_starts w host = record {
+    groups = λ all. all_hear (events.Restart host) w.groups all;
+    later = each_later (events.Restart host) w.groups;
+    called = λ go none. let same = none_called go (events.Restart host) (λ g. refl) w.groups in omega (arith, same);
+    clock = refl;
+    few = λ lines f. f;
+  }
+
+  client_hears : (w : World) (i : ℕ) (c d : Client) → IsOf w.clients (Some c) → ((lines : ℕ) → Few lines c → Few lines d) → Keeps w (with_client w i d) 0
+  client_hears w i c d is hears = untouched w (with_client w i d) refl refl (λ lines f. all_set (Few lines) w.clients i d f (hears lines (is (Few lines) f)))
+
   client_starts : (w : World) (p : Placed Client) (d : Client) → IsOneOf w.clients (Some p) → ((lines : ℕ) → Few lines p.value → Few (lines + 1) d) →
-      Follows w (with_client w p.place d)
+      Follows w (with_client w p.place d) 0
   client_starts w p d is starts = record {
     groups = λ all. all;
     later = all_stay w.groups;
+    called = λ go none. omega arith;
     acted = λ t lines h. record {
       clock = omega (arith, h.clock);
       started = all_set (Few (lines + 1)) w.clients p.place d (more_few lines w.clients h.started) (starts lines (all_get (Few lines) w.clients p.place p.value h.started is));
@@ -261,7 +339,7 @@ module _ (P : ScriptGroup → Type 0) (acts : (g : ScriptGroup) (e : Event) → 
   -- ---- turns
 
   abbrev pub GoesOn : World → Turn → Type 0
-  GoesOn w (Goes new report calls) = Follows w new
+  GoesOn w (Goes new report calls) = Follows w new calls
   GoesOn w (Refused why calls) = Unit {0}
 
   refused_or : (w : World) (o : Option LineFault) (calls : ℕ) (t : Turn) → GoesOn w t → GoesOn w (unless o calls t)
@@ -274,12 +352,12 @@ module _ (P : ScriptGroup → Type 0) (acts : (g : ScriptGroup) (e : Event) → 
 
   -- ---- what a client does
 
-  attempt_keeps : (w : World) (client : ℕ) (name : List ℕ) (a : Attempt) (o : Option HostNo) → Keeps w (attempted w client name a o).world
+  attempt_keeps : (w : World) (client : ℕ) (name : List ℕ) (a : Attempt) (o : Option HostNo) → Makes w (attempted w client name a o)
   attempt_keeps w client name a None = same w
   attempt_keeps w client name a (Some host) = more_sent w (messages.Request client host a ∷ [])
 
   does_keeps : (w : World) (client : ℕ) (name : List ℕ) (gives : Option Par) (idle : List ReportLine) (told : Told) →
-      Keeps w (does w client name gives idle told).world
+      Makes w (does w client name gives idle told)
   does_keeps w client name gives idle (tolds.Attempt a) = attempt_keeps w client name a (host_at a.port)
   does_keeps w client name gives idle (tolds.Adopted group version a) = attempt_keeps w client name a (host_at a.port)
   does_keeps w client name gives idle (tolds.Ended number end) = same w
@@ -290,18 +368,18 @@ module _ (P : ScriptGroup → Type 0) (acts : (g : ScriptGroup) (e : Event) → 
   one_more false n lines le = omega (arith, le)
 
   started_on : (w : World) (p : Placed Client) (g : ScriptGroup) (op : List ℕ) (said : CallWords) → IsOneOf w.clients (Some p) →
-      Follows w (started w p g op said).world
+      Follows w (started w p g op said).world (started w p g op said).calls
   started_on w p g op said is =
       let took = taking p.value g.id in
       let t : Turned = begin took.client (begun w p.value g op said took.reference) in
-      follows_then w (with_client w p.place t.client) (started_by w p t).world
+      follows_then w (with_client w p.place t.client) (started_by w p t).world (started_by w p t).calls
       (client_starts w p t.client is (λ lines f. (omega (arith, f.0), one_more _ p.value.numbered lines f.1)))
       (does_keeps (with_client w p.place t.client) p.place p.value.name None [] t.told)
 
   called_on : (w : World) (p : Placed Client) (g : ScriptGroup) (op : List ℕ) (said : CallWords) (o : Option Call) → IsOneOf w.clients (Some p) →
-      Follows w (call_by w p g op said o).world
+      Follows w (call_by w p g op said o).world (call_by w p g op said o).calls
   called_on w p g op said None is = started_on w p g op said is
-  called_on w p g op said (Some call) is = begins_none w w (same w)
+  called_on w p g op said (Some call) is = begins_none w w 0 (same w)
 
   from_on : (w : World) (o : Option (Placed Client)) (g : ScriptGroup) (op : List ℕ) (said : CallWords) → IsOneOf w.clients o → GoesOn w (call_from w o g op said)
   from_on w None g op said is = tt
@@ -317,8 +395,8 @@ module _ (P : ScriptGroup → Type 0) (acts : (g : ScriptGroup) (e : Event) → 
 
   -- ---- a message that comes
 
-  answered_keeps : (w : World) (k : ℕ) (a : Asker) (answer : GroupAnswer) → Keeps w (answered w k a answer).world
-  answered_keeps w k a (answers.Reply decision (Some answer) out) = record { groups = λ all. all; later = all_stay w.groups; clock = refl; few = λ lines f. f }
+  answered_keeps : (w : World) (k : ℕ) (a : Asker) (answer : GroupAnswer) → Makes w (answered w k a answer)
+  answered_keeps w k a (answers.Reply decision (Some answer) out) = untouched w (answered w k a (answers.Reply decision (Some answer) out)).world refl refl (λ lines f. f)
   answered_keeps w k a (answers.Reply decision None out) = host_stops w a.host
   answered_keeps w k a (answers.Known version) = same w
   answered_keeps w k a (answers.Applied position) = same w
@@ -333,33 +411,36 @@ module _ (P : ScriptGroup → Type 0) (acts : (g : ScriptGroup) (e : Event) → 
   answered_keeps w k a answers.NoMemory = same w
 
   requested_keeps : (w : World) (k client : ℕ) (host : HostNo) (a : Attempt) (stop : Stop) (o : Option (Placed ScriptGroup)) (c : Option Client) →
-      IsOneOf w.groups o → Keeps w (requested w k client host a stop o c).world
+      IsOneOf w.groups o → Makes w (requested w k client host a stop o c)
   requested_keeps w k client host a stop None c is = same w
   requested_keeps w k client host a stop (Some p) None is = same w
   requested_keeps w k client host a stop (Some p) (Some c) is =
       let e : Event = request_event w host a stop in
       let v : World = with_event w p.place p.value e in
       let answer : GroupAnswer = (turn p.value e).answer in
-      behind w v (answered v k (asker_of client host a p.value c) answer).world (group_acts w p e is)
+      let made : Effect = answered v k (asker_of client host a p.value c) answer in
+      behind w v made.world (turn p.value e).calls made.calls (group_acts w p e is)
       (answered_keeps v k (asker_of client host a p.value c) answer)
 
   hears_none : (c : Client) (o : Option Call) (t : retries.Turn) (lines : ℕ) → Few lines c → Few lines (going_on c o t).client
   hears_none c None t lines f = f
   hears_none c (Some call) t lines f = f
 
-  heard_keeps : (w : World) (k : ℕ) (r : AReply) (o : Option Client) → IsOf w.clients o → Keeps w (heard_by w k r o).world
+  heard_keeps : (w : World) (k : ℕ) (r : AReply) (o : Option Client) → IsOf w.clients o → Makes w (heard_by w k r o)
   heard_keeps w k r None is = same w
   heard_keeps w k r (Some c) is =
       let t : Turned = hearing c r.id (heard_of w r.group r.answer) (record { 0 = w.clock }) in
       let v : World = with_client w r.client t.client in
-      behind w v (heard_by w k r (Some c)).world (client_hears w r.client c t.client is (λ lines f. hears_none c c.call _ lines f))
-      (does_keeps v r.client c.name r.gives (_ ∷ []) t.told)
+      let made : Effect = heard_by w k r (Some c) in
+      as_many w made.world (0 + made.calls) made.calls (omega arith)
+      (behind w v made.world 0 made.calls (client_hears w r.client c t.client is (λ lines f. hears_none c c.call _ lines f))
+      (does_keeps v r.client c.name r.gives (_ ∷ []) t.told))
 
-  brought_keeps : (w : World) (k : ℕ) (out : Out) (o : Option (Placed ScriptGroup)) → IsOneOf w.groups o → Keeps w (brought_to w k out o).world
+  brought_keeps : (w : World) (k : ℕ) (out : Out) (o : Option (Placed ScriptGroup)) → IsOneOf w.groups o → Makes w (brought_to w k out o)
   brought_keeps w k out None is = same w
-  brought_keeps w k out (Some p) is = group_acts w p (brought out) is
+  brought_keeps w k out (Some p) is = as_many w (with_event w p.place p.value (brought out)) _ _ (omega arith) (group_acts w p (brought out) is)
 
-  arrives_keeps : (w : World) (k : ℕ) (stop : Stop) (m : Message) → Keeps w (arrives w k stop m).world
+  arrives_keeps : (w : World) (k : ℕ) (stop : Stop) (m : Message) → Makes w (arrives w k stop m)
   arrives_keeps w k stop (messages.Request client host a) =
       requested_keeps w k client host a stop (group_numbered w.groups a.group.0) (slice_get w.clients client) (numbered_one w.groups a.group.0)
   arrives_keeps w k stop (messages.Reply r) = heard_keeps w k r (slice_get w.clients r.client) (got w.clients r.client)
@@ -367,56 +448,75 @@ module _ (P : ScriptGroup → Type 0) (acts : (g : ScriptGroup) (e : Event) → 
 
   deliver_on : (w : World) (k : ℕ) (stop : Stop) (o : Option Message) → GoesOn w (delivered w k stop o)
   deliver_on w k stop None = tt
-  deliver_on w k stop (Some m) = begins_none w (arrives w k stop m).world (arrives_keeps w k stop m)
+  deliver_on w k stop (Some m) = begins_none w (arrives w k stop m).world (arrives w k stop m).calls (arrives_keeps w k stop m)
 
   -- ---- a link
 
-  port_keeps : (e : Effect) (w : World) (host : ℕ) (g : ScriptGroup) (gives : Option Par) (calls : ℕ) (answer : GroupAnswer) →
-      Keeps w (answered_by e w host g gives calls answer).effect.world
-  port_keeps e w host g gives calls (answers.Reply decision (Some answer) out) = record { groups = λ all. all; later = all_stay w.groups; clock = refl; few = λ lines f. f }
-  port_keeps e w host g gives calls (answers.Reply decision None out) = same w
-  port_keeps e w host g gives calls (answers.Known version) = same w
-  port_keeps e w host g gives calls (answers.Applied position) = same w
-  port_keeps e w host g gives calls (answers.Held position) = same w
-  port_keeps e w host g gives calls (answers.Ignored why) = same w
-  port_keeps e w host g gives calls (answers.Taken from position out) = same w
-  port_keeps e w host g gives calls (answers.Changed view out) = same w
-  port_keeps e w host g gives calls (answers.Refused why) = same w
-  port_keeps e w host g gives calls answers.LogFault = same w
-  port_keeps e w host g gives calls answers.Down = same w
-  port_keeps e w host g gives calls answers.Up = same w
-  port_keeps e w host g gives calls answers.NoMemory = same w
+  -- an effect behind those so far
+  record Further (e f : Effect) : Type 0 where
+    calls : ℕ
+    more : f.calls ≡ e.calls + calls
+    keeps : Keeps e.world f.world calls
 
-  ask_keeps : (e : Effect) (host : ℕ) (asked : Asked) (o : Option (Placed ScriptGroup)) → IsOneOf e.world.groups o →
-      Keeps e.world (ask_group e host asked o).effect.world
-  ask_keeps e host asked None is = same e.world
-  ask_keeps e host asked (Some p) is =
+  port_further : (e : Effect) (w : World) (host : ℕ) (g : ScriptGroup) (gives : Option Par) (calls : ℕ) (answer : GroupAnswer) → Keeps e.world w calls →
+      Further e (answered_by e w host g gives calls answer).effect
+  port_further e w host g gives calls (answers.Reply decision (Some answer) out) keeps = record {
+    calls = calls;
+    more = refl;
+    keeps = as_many e.world (answered_by e w host g gives calls (answers.Reply decision (Some answer) out)).effect.world (calls + 0) calls (omega arith)
+        (behind e.world w (answered_by e w host g gives calls (answers.Reply decision (Some answer) out)).effect.world calls 0 keeps (more_sent w (all_carried g.id out)));
+  }
+  port_further e w host g gives calls (answers.Reply decision None out) keeps = record { calls = calls; more = refl; keeps = keeps }
+  port_further e w host g gives calls (answers.Known version) keeps = record { calls = calls; more = refl; keeps = keeps }
+  port_further e w host g gives calls (answers.Applied position) keeps = record { calls = calls; more = refl; keeps = keeps }
+  port_further e w host g gives calls (answers.Held position) keeps = record { calls = calls; more = refl; keeps = keeps }
+  port_further e w host g gives calls (answers.Ignored why) keeps = record { calls = calls; more = refl; keeps = keeps }
+  port_further e w host g gives calls (answers.Taken from position out) keeps = record { calls = calls; more = refl; keeps = keeps }
+  port_further e w host g gives calls (answers.Changed view out) keeps = record { calls = calls; more = refl; keeps = keeps }
+  port_further e w host g gives calls (answers.Refused why) keeps = record { calls = calls; more = refl; keeps = keeps }
+  port_further e w host g gives calls answers.LogFault keeps = record { calls = calls; more = refl; keeps = keeps }
+  port_further e w host g gives calls answers.Down keeps = record { calls = calls; more = refl; keeps = keeps }
+  port_further e w host g gives calls answers.Up keeps = record { calls = calls; more = refl; keeps = keeps }
+  port_further e w host g gives calls answers.NoMemory keeps = record { calls = calls; more = refl; keeps = keeps }
+
+  ask_further : (e : Effect) (host : ℕ) (asked : Asked) (o : Option (Placed ScriptGroup)) → IsOneOf e.world.groups o →
+      Further e (ask_group e host asked o).effect
+  ask_further e host asked None is = record { calls = 0; more = refl; keeps = same e.world }
+  ask_further e host asked (Some p) is =
       let event : Event = asked_event e.world host asked in
       let v : World = with_event e.world p.place p.value event in
-      let gives : Option Par = gives_of (signature_asked (machine_of p.value) asked.op) in
       let t = turn p.value event in
-      behind e.world v (answered_by e v host (acted p.value event) gives t.calls t.answer).effect.world (group_acts e.world p event is)
-      (port_keeps e v host (acted p.value event) gives t.calls t.answer)
+      port_further e v host (acted p.value event) (gives_of (signature_asked (machine_of p.value) asked.op)) t.calls t.answer (group_acts e.world p event is)
 
   by_one : (w : World) (o : Option GroupId) → IsOneOf w.groups (group_by w o)
   by_one w None = tt
   by_one w (Some group) = numbered_one w.groups group.0
 
-  abbrev KeepsWorld : Effect → Effect → Type 0
-  KeepsWorld e f = Keeps e.world f.world
+  none_further : (e f : Effect) → f.world ≡ e.world → f.calls ≡ e.calls + 0 → Further e f
+  none_further e f world calls = record { calls = 0; more = calls; keeps = subst (λ (w : World). Keeps e.world w 0) (sym world) (same e.world) }
 
-  links_keep : (host : ℕ) → Grows (world_port host) KeepsWorld
-  links_keep host = record {
-    same = λ (e : Effect). same e.world;
-    next = λ (e f g : Effect) (a : KeepsWorld e f) (b : KeepsWorld f g). behind e.world f.world g.world a b;
-    asks = λ (e : Effect) (key : List ℕ) (asked : Asked). ask_keeps e host asked (group_keyed e.world key) (by_one e.world (group_of_key key));
-    writes = λ (e : Effect) (bytes : List ℕ). same e.world;
+  further_on : (e f g : Effect) → Further e f → Further f g → Further e g
+  further_on e f g a b = record {
+    calls = a.calls + b.calls;
+    more = let first = a.more in let second = b.more in omega (arith, first, second);
+    keeps = behind e.world f.world g.world a.calls b.calls a.keeps b.keeps;
   }
 
-  link_keeps : (w : World) (host : ℕ) (bytes : List ℕ) → Keeps w (link_of w host bytes).world
-  link_keeps w host bytes = session_grows (world_port host) KeepsWorld (links_keep host) (says w []) (session bytes)
+  links_keep : (host : ℕ) → Grows (world_port host) Further
+  links_keep host = record {
+    same = λ (e : Effect). none_further e e refl (omega arith);
+    next = further_on;
+    asks = λ (e : Effect) (key : List ℕ) (asked : Asked). ask_further e host asked (group_keyed e.world key) (by_one e.world (group_of_key key));
+    writes = λ (e : Effect) (bytes : List ℕ). none_further e (written e bytes) refl refl;
+  }
 
-  if_keeps : (w : World) (b : Bool) (e f : Effect) → Keeps w e.world → Keeps w f.world → Keeps w (if b then e else f).world
+  link_keeps : (w : World) (host : ℕ) (bytes : List ℕ) → Makes w (link_of w host bytes)
+  link_keeps w host bytes =
+      let all : Further (says w []) (linked (world_port host) (says w []) bytes) = session_grows (world_port host) Further (links_keep host) (says w []) (session bytes) in
+      let more = all.more in
+      as_many w (link_of w host bytes).world all.calls (link_of w host bytes).calls (omega (arith, more)) all.keeps
+
+  if_keeps : (w : World) (b : Bool) (e f : Effect) → Makes w e → Makes w f → Makes w (if b then e else f)
   if_keeps w true e f a b = a
   if_keeps w false e f a b = b
 
@@ -424,12 +524,12 @@ module _ (P : ScriptGroup → Type 0) (acts : (g : ScriptGroup) (e : Event) → 
   inject_on w host bytes =
       let e : Effect = if is_up w host then link_of w host bytes else says w (reports.LinkLost ∷ []) in
       refused_or w (first_cause (host_causes w host)) 0 (goes e)
-      (begins_none w e.world (if_keeps w (is_up w host) (link_of w host bytes) (says w (reports.LinkLost ∷ [])) (link_keeps w host bytes) (same w)))
+      (begins_none w e.world e.calls (if_keeps w (is_up w host) (link_of w host bytes) (says w (reports.LinkLost ∷ [])) (link_keeps w host bytes) (same w)))
 
   -- ---- members and hosts
 
-  changed_keeps : (w : World) (host : HostNo) (g : ScriptGroup) (answer : GroupAnswer) → Keeps w (changed w host g answer).world
-  changed_keeps w host g (answers.Changed view out) = record { groups = λ all. all; later = all_stay w.groups; clock = refl; few = λ lines f. f }
+  changed_keeps : (w : World) (host : HostNo) (g : ScriptGroup) (answer : GroupAnswer) → Makes w (changed w host g answer)
+  changed_keeps w host g (answers.Changed view out) = more_sent w (all_carried g.id out)
   changed_keeps w host g (answers.Refused why) = same w
   changed_keeps w host g (answers.Reply decision answer out) = same w
   changed_keeps w host g (answers.Known version) = same w
@@ -442,20 +542,21 @@ module _ (P : ScriptGroup → Type 0) (acts : (g : ScriptGroup) (e : Event) → 
   changed_keeps w host g answers.Up = same w
   changed_keeps w host g answers.NoMemory = same w
 
-  changes_keep : (w : World) (p : Placed ScriptGroup) (change : Change) (host : HostNo) → IsOneOf w.groups (Some p) → Keeps w (changes_members w p change host).world
+  changes_keep : (w : World) (p : Placed ScriptGroup) (change : Change) (host : HostNo) → IsOneOf w.groups (Some p) → Makes w (changes_members w p change host)
   changes_keep w p change host is =
       let e : Event = events.Manage change in
       let v : World = with_event w p.place p.value e in
-      behind w v (changed v host p.value (turn p.value e).answer).world (group_acts w p e is) (changed_keeps v host p.value (turn p.value e).answer)
+      let made : Effect = changed v host p.value (turn p.value e).answer in
+      behind w v made.world (turn p.value e).calls made.calls (group_acts w p e is) (changed_keeps v host p.value (turn p.value e).answer)
 
   change_on : (w : World) (o : Option (Placed ScriptGroup)) (change : MemberChange) (host : ℕ) → IsOneOf w.groups o → GoesOn w (change_to w o change host)
   change_on w None change host is = tt
   change_on w (Some p) change host is =
       let e : Effect = changes_members w p (change_of change (host_no host)) (host_no host) in
-      refused_or w (first_cause (host_causes w host)) 0 (goes e) (begins_none w e.world (changes_keep w p (change_of change (host_no host)) (host_no host) is))
+      refused_or w (first_cause (host_causes w host)) 0 (goes e) (begins_none w e.world e.calls (changes_keep w p (change_of change (host_no host)) (host_no host) is))
 
   -- one of two worlds
-  either_keeps : (w : World) (b : Bool) (u v : World) → Keeps w u → Keeps w v → Keeps w (if b then u else v)
+  either_keeps : (w : World) (b : Bool) (u v : World) → Keeps w u 0 → Keeps w v 0 → Keeps w (if b then u else v) 0
   either_keeps w true u v a b = a
   either_keeps w false u v a b = b
 
@@ -463,59 +564,72 @@ module _ (P : ScriptGroup → Type 0) (acts : (g : ScriptGroup) (e : Event) → 
   crash_on w host =
       let new : World = if is_up w host then stopped w (host_no host) else w in
       refused_or w (first_cause (host_causes w host)) 0 (goes (says new (reports.Down (host_no host) ∷ [])))
-      (begins_none w new (either_keeps w (is_up w host) (stopped w (host_no host)) w (host_stops w (host_no host)) (same w)))
+      (begins_none w new 0 (either_keeps w (is_up w host) (stopped w (host_no host)) w (host_stops w (host_no host)) (same w)))
 
   restart_on : (w : World) (host : ℕ) → GoesOn w (restart_line w host)
   restart_on w host =
       let new : World = if is_up w host then w else started_again w (host_no host) in
       refused_or w (first_cause (host_causes w host)) 0 (goes (says new (reports.Up (host_no host) ∷ [])))
-      (begins_none w new (either_keeps w (is_up w host) w (started_again w (host_no host)) (same w) (host_starts w (host_no host))))
+      (begins_none w new 0 (either_keeps w (is_up w host) w (started_again w (host_no host)) (same w) (host_starts w (host_no host))))
 
   show_on : (w : World) (o : Option (Placed ScriptGroup)) → GoesOn w (show_found w o)
   show_on w None = tt
-  show_on w (Some p) = begins_none w w (same w)
+  show_on w (Some p) = begins_none w w 0 (same w)
 
   -- ---- what is made
 
   hosts_on : (w : World) (count : ℕ) → GoesOn w (hosts_line w count)
   hosts_on w count =
       refused_or w (first_cause (hosts_causes w count)) 0 (goes (says (with_hosts w count) []))
-      (begins_none w (with_hosts w count) (record { groups = λ all. all; later = all_stay w.groups; clock = refl; few = λ lines f. f }))
+      (begins_none w (with_hosts w count) 0 (untouched w (with_hosts w count) refl refl (λ lines f. f)))
 
-  stopped_so : (i : ℕ) (hosts : List HostState) (g : ScriptGroup) → P g → P (stopped_from i hosts g)
+  -- hosts that are down stop in a group, and call no servant
+  stopped_kept : (i : ℕ) (hosts : List HostState) (g : ScriptGroup) → IsKept g → IsKept (stopped_from i hosts g)
   unfolding stopped_from
-  stopped_so i [] g p = p
-  stopped_so i (h ∷ hosts) g p = stopped_so (suc i) hosts (stopped_if h.up g i) (one h.up)
+  stopped_kept i [] g kept = kept
+  stopped_kept i (h ∷ hosts) g kept = stopped_kept (suc i) hosts (stopped_if h.up g i) (one h.up)
     where
-      one : (up : Bool) → P (stopped_if up g i)
-      one true = p
-      one false = acts g (events.Crash (host_no i)) p
+      one : (up : Bool) → IsKept (stopped_if up g i)
+      one true = kept
+      one false = kept
+
+  stopped_called : CallsGoOn → (i : ℕ) (hosts : List HostState) (g : ScriptGroup) → servant_calls (stopped_from i hosts g) ≡ servant_calls g
+  unfolding stopped_from
+  stopped_called go i [] g = refl
+  stopped_called go i (h ∷ hosts) g = let here = one h.up in stopped_called go (suc i) hosts (stopped_if h.up g i) ∙ here
+    where
+      one : (up : Bool) → servant_calls (stopped_if up g i) ≡ servant_calls g
+      one true = refl
+      one false = let turned = go g (events.Crash (host_no i)) in omega (arith, turned)
 
   group_on : (w : World) (name : List ℕ) (kind : KindWord) (style : Style) (members : List ℕ) → GoesOn w (group_line w name kind style members)
   group_on w name kind style members =
+      let opens : ScriptGroup = opened (next_id w) name (kind_of kind) style members in
       let g : ScriptGroup = new_group w name kind style members in
       refused_or w (first_cause (group_causes w name members)) 0 (goes (made_group w name kind style members))
-      (begins_none w (with_group w g) (record {
-        groups = λ all. all_push P w.groups g all (stopped_so 0 w.hosts (opened (next_id w) name (kind_of kind) style members) (opens (next_id w) name (kind_of kind) style members));
+      (begins_none w (with_group w g) 0 (record {
+        groups = λ all. all_push IsKept w.groups g all (stopped_kept 0 w.hosts opens refl);
         later = one_behind w.groups g;
+        called = λ go none.
+            let behind = one_behind_called w.groups g in
+            let stops = stopped_called go 0 w.hosts opens in
+            let opening = none (next_id w) name (kind_of kind) style members in
+            omega (arith, behind, stops, opening);
         clock = refl;
         few = λ lines f. f;
       }))
 
   client_on : (w : World) (name : List ℕ) → GoesOn w (client_line w name)
   client_on w name =
-      refused_or w (first_cause (client_causes w name)) 0 (goes (says (with_one_client w (new_client name)) []))
-      (begins_none w (with_one_client w (new_client name)) (record {
-        groups = λ all. all;
-        later = all_stay w.groups;
-        clock = refl;
-        few = λ lines f. all_push (Few lines) w.clients (new_client name) f (omega arith, omega arith);
-      }))
+      let new : World = with_one_client w (new_client name) in
+      refused_or w (first_cause (client_causes w name)) 0 (goes (says new []))
+      (begins_none w new 0 (untouched w new refl refl (λ lines f. all_push (Few lines) w.clients (new_client name) f (omega arith, omega arith))))
 
-  tick_on : (w : World) (ticks : ℕ) → (T → ticks < 2 ^ 32) → Follows w (passed w ticks)
+  tick_on : (w : World) (ticks : ℕ) → (T → ticks < 2 ^ 32) → Follows w (passed w ticks) 0
   tick_on w ticks timely = record {
     groups = λ all. all;
     later = all_stay w.groups;
+    called = λ go none. omega arith;
     acted = λ t lines h. record { clock = omega (arith, h.clock, timely t); started = more_few lines w.clients h.started };
   }
 
@@ -539,17 +653,9 @@ module _ (P : ScriptGroup → Type 0) (acts : (g : ScriptGroup) (e : Event) → 
 
 -- ---- the world after a line, before its totals are judged
 
-none_poisoned : (g : ScriptGroup) (e : Event) → IsKept g → IsKept g
-none_poisoned g e kept = kept
-
-opens_kept : (id : GroupId) (name : List ℕ) (kind : Kind) (style : Style) (members : List ℕ) → IsKept (opened id name kind style members)
-opens_kept id name kind style members = refl
-
 module _ (w new : World) (line : Line) (timely : IsTimely line) (report : List ReportLine) (calls : ℕ) (is : act_first w line ≡ Goes new report calls) where
-  follows : Follows IsKept none_poisoned opens_kept (λ g h. Unit {0}) (λ g. tt) (λ f g h a b. tt) (λ g e. tt) (IsTimely line) w new
-  follows =
-      subst (GoesOn IsKept none_poisoned opens_kept (λ g h. Unit {0}) (λ g. tt) (λ f g h a b. tt) (λ g e. tt) (IsTimely line) w) is
-      (first_on IsKept none_poisoned opens_kept (λ g h. Unit {0}) (λ g. tt) (λ f g h a b. tt) (λ g e. tt) (IsTimely line) w line (λ t. t))
+  follows : Follows (IsTimely line) w new calls
+  follows = subst (GoesOn (IsTimely line) w) is (first_on (IsTimely line) w line (λ t. t))
 
   pub kept_after : IsKeptWorld w → IsKeptWorld new
   kept_after kept = follows.groups kept

@@ -1,17 +1,17 @@
 -- What holds of every world that a script makes.
-use Rattle.std.specs.Prelude.{◌≡◌, ℕ, ◌<◌, List, [], ◌∷◌, ◌++◌, length}
+use Rattle.std.specs.Prelude.{◌≡◌, ℕ, ◌+◌, ◌<◌, List, [], ◌∷◌, ◌++◌, length, sum_by}
 use Rattle.std.specs.List.{AllByRecursion}
-use Rattle.ft_base.specs.Journal.{AtMostOnce, Entry, reply_at}
-use Rattle.ft_base.specs.declared.requests.Outcome.{Outcome}
+use Rattle.ft_base.specs.Journal.{AtMostOnce, Entry}
 use Rattle.ft_base.specs.declared.decisions.Stop.{Stop}
 use Rattle.ft_base.specs.declared.numbers.HostNo.{HostNo}
 use Rattle.ft_base.specs.declared.numbers.Tick.{Tick}
 use Rattle.fault_script.specs.declared.lines.Line.{Line}
 use Rattle.group_model.specs.declared.asking.Asked.{Asked}
+use Rattle.group_model.specs.declared.events.Event.{Event}
 use Rattle.group_model.specs.declared.events.Event.TheVariants as events
 use Rattle.group_model.specs.Decisions.{known_then}
 use Rattle.group_model.specs.Views.{newest}
-use Rattle.script_groups.specs.Groups.{ScriptGroup, acted, common_of, group_of, machine_of, turn}
+use Rattle.script_groups.specs.Groups.{ScriptGroup, acted, common_of, entries_caught_up, entries_run, group_of, orders_applied, reply_of, servant_calls, turn, with_more}
 use Rattle.script_world.specs.World.{World, empty}
 use Rattle.ft_world.specs.Acts.{act}
 use Rattle.ft_world.specs.Turns.{Turn, Goes, Refused}
@@ -39,9 +39,10 @@ AllLater R [] hs = Unit {0}
 AllLater R (g ∷ gs) [] = ⊥
 AllLater R (g ∷ gs) (h ∷ hs) = R g h × AllLater R gs hs
 
--- the one reply of an accepted entry
-abbrev pub reply_of : ScriptGroup → ℕ → Outcome
-reply_of g i = reply_at (machine_of g) (common_of g).opening (common_of g).journal i
+-- a group, and the same with more events
+pub record HasMore (g h : ScriptGroup) : Type 0 where
+  pub more : List Event
+  pub is : h ≡ with_more g more
 
 -- What a group has accepted it keeps, each entry at its place; and an entry's reply is the same ever after.
 pub record KeepsEntries (g h : ScriptGroup) : Type 0 where
@@ -52,6 +53,29 @@ pub record KeepsEntries (g h : ScriptGroup) : Type 0 where
 
 abbrev pub ScriptsKeepEntries : Type 0
 ScriptsKeepEntries = (w : World) (script : List Line) → AllLater KeepsEntries w.groups (world_after w script).groups
+
+-- ---- servant calls
+
+-- of the lines that were acted
+abbrev pub or_no_more : Turn → (World → ℕ) → ℕ
+or_no_more (Goes next report calls) rest = calls + rest next
+or_no_more (Refused why calls) rest = 0
+
+unfoldable pub calls_from : World → List Line → ℕ
+calls_from w [] = 0
+calls_from w (line ∷ lines) = or_no_more (act w line) (λ next. calls_from next lines)
+
+abbrev pub calls_of_groups : List ScriptGroup → ℕ
+calls_of_groups gs = sum_by servant_calls gs
+
+-- They are the accepted entries that were run, the entries that hosts caught up with, and the orders that were
+-- applied, of all groups.
+abbrev pub ServantsAreCalled : Type 0
+ServantsAreCalled = (script : List Line) →
+    let gs = (world_after empty script).groups in
+    calls_from empty script ≡ sum_by entries_run gs + sum_by entries_caught_up gs + sum_by orders_applied gs
+
+-- ---- hosts that were deposed
 
 -- a host of the group that knows an older view than the newest, when it is asked, appends nothing, changes nothing
 -- that the hosts share, and calls no servant

@@ -1,9 +1,8 @@
 //! Laws over runs of scripts. The functions do nothing: their contracts are facts.
-ghost use Rattle.ft_world.specs.Laws.{DeposedDoNothing, ScriptsAcceptOnce, ScriptsKeepEntries};
+ghost use Rattle.ft_world.specs.Laws.{DeposedDoNothing, ScriptsAcceptOnce, ScriptsKeepEntries, ServantsAreCalled};
 
-use ft_base::requests_join;
 use group_model::deposed_append_nothing;
-use script_groups::groups_go_on;
+use script_groups::{calls_are_counted, groups_go_on, groups_keep_entries};
 
 /// At most once: in every world that lines of a script make, each request with a key in each group's journal was
 /// accepted before its expiration, and a client's retention id was accepted again only once the expiration of its
@@ -11,8 +10,7 @@ use script_groups::groups_go_on;
 pub fn scripts_accept_once()
     ensures { ScriptsAcceptOnce }
 {
-    requests_join();
-    groups_go_on();
+    groups_keep_entries();
 }
 
 /// Whatever lines follow, no group is lost; each entry that a group has accepted stays what it is, at its place;
@@ -20,8 +18,15 @@ pub fn scripts_accept_once()
 pub fn scripts_keep_entries()
     ensures { ScriptsKeepEntries }
 {
-    requests_join();
-    groups_go_on();
+    groups_keep_entries();
+}
+
+/// The servant calls of the lines of a script are the accepted entries that were run, the entries that hosts
+/// caught up with, and the orders that were applied, of all groups.
+pub fn servants_are_called()
+    ensures { ServantsAreCalled }
+{
+    calls_are_counted();
 }
 
 /// In every world that lines of a script make: a host that knows an older view than the newest, when it is asked,

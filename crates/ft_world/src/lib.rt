@@ -13,4 +13,6 @@ mod printing;
 mod sending;
 
 pub use acts::act;
-pub use laws::{deposed_do_nothing, scripts_accept_once, scripts_keep_entries};
+pub use laws::{
+    deposed_do_nothing, scripts_accept_once, scripts_keep_entries, servants_are_called,
+};

@@ -117,7 +117,7 @@ module _ (replicas : ReplicasGoOn) (holdbacks : HoldbacksGoOn) (machines : ℕ �
         let m = machines g.common.kind in
         let step : Step = record { event = e; fails = shows_fault answer } in
         let after = after_event m g e (shows_fault answer) in
-        let grows = event_grows all_grow m (stays g.common.kind) g step stands.sound agrees in
+        let grows = event_grows all_grow m g step in
         let sound : IsSound (machines after.common.kind) after = rw grows.kind (event_sound sounds m (stays g.common.kind) g step stands.sound agrees) in
         let host_stands = subst (λ (x : Host). HostStands machines after.common host x) (sym (put-same g.hosts (host_of e) (turn_of m g e (shows_fault answer)).host)) taken.host in
         record {

@@ -28,9 +28,8 @@ one_agrees m g step agrees = (agrees, tt)
 pub event_sound : GroupsStaySound → (m : Machine) → Stays m → (g : Group) (step : Step) → IsSound m g → Agrees m step.event g → IsSound m (after_event m g step.event step.fails)
 event_sound law m stays g step sound agrees = subst (IsSound m) (one_step m g step) (law m g (step ∷ []) stays sound (one_agrees m g step agrees))
 
-pub event_grows : GroupsGrow → (m : Machine) → Stays m → (g : Group) (step : Step) → IsSound m g → Agrees m step.event g → Grows g.common (after_event m g step.event step.fails).common
-event_grows law m stays g step sound agrees =
-    subst (λ (x : Group). Grows g.common x.common) (one_step m g step) (law m g (step ∷ []) stays sound (one_agrees m g step agrees))
+pub event_grows : GroupsGrow → (m : Machine) (g : Group) (step : Step) → Grows g.common (after_event m g step.event step.fails).common
+event_grows law m g step = subst (λ (x : Group). Grows g.common x.common) (one_step m g step) (law m g (step ∷ []))
 
 -- ---- what want of memory leaves
 

@@ -76,9 +76,9 @@ goes_on sounds grow replies calls m stays g events answers sound agree =
     let agrees : AllAgree m g steps = done_agree m g events [] answers (subst (AlwaysAgree m g) (sym (append-nil events)) agree) in
     record {
       once = (sounds m g steps stays sound agrees).common.journal.so.once;
-      grows = grow m g steps stays sound agrees;
-      replies = replies m g steps stays sound agrees;
-      counted = calls m g steps stays sound agrees;
+      grows = grow m g steps;
+      replies = replies m g steps;
+      counted = calls m g steps sound.common.numbers.ran;
     }
 
 -- ---- a run
@@ -98,7 +98,7 @@ module _ (all_grow : GroupsGrow) (machines : ℕ → Machine) (stays : (k : ℕ)
   here = after_steps m g (steps_of done answers)
 
   same_kind : here.common.kind ≡ g.common.kind
-  same_kind = (all_grow m g (steps_of done answers) (stays g.common.kind) stands.sound (done_agree m g done (e ∷ rest) answers agree)).kind
+  same_kind = (all_grow m g (steps_of done answers)).kind
 
   pub agrees_here : Agrees (machines here.common.kind) e here
   agrees_here = subst (λ (k : ℕ). Agrees (machines k) e here) (sym same_kind) (first_agrees m here e rest (rest_agrees m g done (e ∷ rest) answers ran.whole agree))

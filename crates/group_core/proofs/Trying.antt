@@ -104,7 +104,7 @@ module _ (machines : ℕ → Machine) where
       let fails = shows_fault answer in
       let after = after_event m g e fails in
       let sound = some.stands.sound in
-      let kind = (event_grows grow m (stays g.common.kind) g (record { event = e; fails = fails }) sound agrees).kind in
+      let kind = (event_grows grow m g (record { event = e; fails = fails })).kind in
       let old = all_go_on lasts m (stays g.common.kind) g (record { event = e; fails = fails }) sent sound agrees some.may in
       let new = subst (λ (a : GroupAnswer). AllByRecursion (λ (o : Out). Agrees m (brought o) after) (sent_by a)) taken.told (sends m g e fails sound agrees) in
       let all : AllMayCome m after (sent ++ sent_by answer ∷ []) =

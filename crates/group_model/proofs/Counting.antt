@@ -28,13 +28,12 @@ use Rattle.group_model.specs.Serving.{accepted, admitted, served_or, unless_bad,
 use Rattle.group_model.specs.Transfers.{brought_to, ignoring, holding, ordered, taking, checkpoint_written, on_checkpoint, on_state, on_update, on_order, on_view, on_send_update}
 use Rattle.group_model.specs.Changes.{changed, changed_or, next_view, first_fault, change_rows}
 use Rattle.group_model.specs.Events.{if_up, turn, host_of}
-use Rattle.group_model.specs.Agreeing.{IsSound}
-use Rattle.group_model.specs.Runs.{Step, after_step, AllAgree, calls_of}
+use Rattle.group_model.specs.Runs.{Step, after_step, calls_of}
 use Rattle.group_model.specs.Counting.{asks_journal, entry_run, entries_run, entries_caught_up, orders_applied, total, run_in, caught_up_in, applied_in}
 use Rattle.group_model.proofs.Choosing.{either_so}
 use Rattle.group_model.proofs.Growing.{either}
 use Rattle.group_model.proofs.Knowing.{ErrIs, request_is}
-use Rattle.group_model.proofs.Sounding.{Given, step_sound}
+use Rattle.group_model.proofs.Turning.{turn_within}
 
 -- ---- a turn of a host that asks the journal
 
@@ -175,11 +174,11 @@ turn_counted m c h (events.Manage change) fails le = changed_or_counted c h chan
 turn_counted m c h (events.Crash host) fails le = refl
 turn_counted m c h (events.Restart host) fails le = refl
 
-pub calls_counted : (given : Given) (m : Machine) (g : Group) (steps : List Step) → IsSound m g → AllAgree m g steps →
+pub calls_counted : (m : Machine) (g : Group) (steps : List Step) → g.common.ran ≤ length g.common.journal →
     calls_of m g steps ≡ total (run_in m) m g steps + total (caught_up_in m) m g steps + total (applied_in m) m g steps
-unfolding calls_of total AllAgree
-calls_counted given m g [] sound all = refl
-calls_counted given m g (s ∷ steps) sound all =
-    let one = turn_counted m g.common (g.hosts (host_of s.event)) s.event s.fails sound.common.numbers.ran in
-    let more = calls_counted given m (after_step m g s) steps (step_sound given m g s sound all.0) all.1 in
+unfolding calls_of total
+calls_counted m g [] ran = refl
+calls_counted m g (s ∷ steps) ran =
+    let one = turn_counted m g.common (g.hosts (host_of s.event)) s.event s.fails ran in
+    let more = calls_counted m (after_step m g s) steps (turn_within m g.common (g.hosts (host_of s.event)) s.event s.fails ran) in
     omega (arith, one, more)

@@ -8,6 +8,7 @@ pub mod Joining
 pub mod Placing
 pub mod Viewing
 pub mod Sounding
+pub mod Turning
 pub mod Counting
 pub mod Leaving
 pub mod Sending

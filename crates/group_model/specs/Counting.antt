@@ -1,8 +1,7 @@
 -- How often the servant is called: once for each accepted entry that is run, once for each entry that a host
 -- catches up with, and once for each order that is applied.
-use Rattle.std.specs.Prelude.{◌≡◌, ℕ, ◌+◌, ◌-◌, Bool, true, false, nat_lt, if◌then◌else◌, List, [], ◌∷◌}
+use Rattle.std.specs.Prelude.{◌≡◌, ℕ, ◌+◌, ◌-◌, Bool, true, false, nat_lt, if◌then◌else◌, List, [], ◌∷◌, ◌≤◌, length}
 use Rattle.ft_base.specs.Machine.{Machine}
-use Rattle.ft_base.specs.Laws.{Stays}
 use Rattle.ft_base.specs.declared.decisions.Decision.{Decision}
 use Rattle.ft_base.specs.declared.decisions.Decision.TheVariants as decisions
 use Rattle.group_model.specs.declared.events.Event.{Event}
@@ -13,8 +12,7 @@ use Rattle.group_model.specs.Plain.{Common, Host, Group}
 use Rattle.group_model.specs.Turns.{Turn}
 use Rattle.group_model.specs.Serving.{calls_behind}
 use Rattle.group_model.specs.Events.{turn_of, host_of}
-use Rattle.group_model.specs.Agreeing.{IsSound}
-use Rattle.group_model.specs.Runs.{Step, after_step, AllAgree, calls_of}
+use Rattle.group_model.specs.Runs.{Step, after_step, calls_of}
 
 -- the journal was asked, so the host had caught up
 abbrev pub asks_journal : Decision → Bool
@@ -69,5 +67,5 @@ abbrev pub applied_in : Machine → Group → Step → ℕ
 applied_in m g s = orders_applied s.event (g.hosts (host_of s.event)) (step_turn m g s).host
 
 abbrev pub CallsAreCounted : Type 0
-CallsAreCounted = (m : Machine) (g : Group) (steps : List Step) → Stays m → IsSound m g → AllAgree m g steps →
+CallsAreCounted = (m : Machine) (g : Group) (steps : List Step) → g.common.ran ≤ length g.common.journal →
     calls_of m g steps ≡ total (run_in m) m g steps + total (caught_up_in m) m g steps + total (applied_in m) m g steps

@@ -1,7 +1,7 @@
--- What holds of a group whatever comes to it: over every list of events that agree.
+-- What holds of a group whatever comes to it: over every list of events, or over those that agree.
 use Rattle.std.specs.Prelude.{◌≡◌, ℕ, ◌<◌, ◌≤◌, ◌⊎◌, Bool, List, ◌++◌, length, Some, None}
 use Rattle.ft_base.specs.Machine.{Machine}
-use Rattle.ft_base.specs.Journal.{Entry, reply_at}
+use Rattle.ft_base.specs.Journal.{Entry, IsJournal, reply_at}
 use Rattle.ft_base.specs.Laws.{Stays}
 use Rattle.ft_base.specs.declared.decisions.Decision.{Decision}
 use Rattle.ft_base.specs.declared.decisions.Decision.TheVariants as decisions
@@ -25,6 +25,10 @@ use Rattle.group_model.specs.Runs.{Step, after_steps, AllAgree}
 abbrev pub Onward : (Machine → Group → Group → Type 0) → Type 0
 Onward P = (m : Machine) (g : Group) (steps : List Step) → Stays m → IsSound m g → AllAgree m g steps → P m g (after_steps m g steps)
 
+-- what is said of them whether the events agree or not
+abbrev pub Whatever : (Machine → Group → Group → Type 0) → Type 0
+Whatever P = (m : Machine) (g : Group) (steps : List Step) → P m g (after_steps m g steps)
+
 -- A group stays sound. So each request is accepted at most once before its expiration, acceptance ticks never
 -- fall, no host is past what has run, the k-th view has version k, and a passive view's primary is a member.
 abbrev pub GroupsStaySound : Type 0
@@ -44,16 +48,24 @@ pub record Grows (c after : Common) : Type 0 where
   pub ran : c.ran ≤ after.ran
 
 abbrev pub GroupsGrow : Type 0
-GroupsGrow = Onward (λ m g after. Grows g.common after.common)
+GroupsGrow = Whatever (λ m g after. Grows g.common after.common)
 
 -- The reply of an entry is the same ever after, whichever host gives it.
 abbrev pub RepliesStay : Type 0
-RepliesStay = Onward (λ m g after. (i : ℕ) → i < length g.common.journal →
+RepliesStay = Whatever (λ m g after. (i : ℕ) → i < length g.common.journal →
     reply_at m after.common.opening after.common.journal i ≡ reply_at m g.common.opening g.common.journal i)
 
 -- So is the state after a number of entries.
 abbrev pub StatesStay : Type 0
-StatesStay = Onward (λ m g after. (n : ℕ) → n ≤ length g.common.journal → state_at m after.common n ≡ state_at m g.common n)
+StatesStay = Whatever (λ m g after. (n : ℕ) → n ≤ length g.common.journal → state_at m after.common n ≡ state_at m g.common n)
+
+-- A journal up to the group's time stays one: no event accepts a request a second time before its expiration.
+abbrev pub JournalsStay : Type 0
+JournalsStay = Whatever (λ m g after. IsJournal g.common.time g.common.journal → IsJournal after.common.time after.common.journal)
+
+-- No host is past the journal's end.
+abbrev pub NoneRunsAhead : Type 0
+NoneRunsAhead = Whatever (λ m g after. g.common.ran ≤ length g.common.journal → after.common.ran ≤ length after.common.journal)
 
 -- ---- one event
 

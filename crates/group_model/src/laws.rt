@@ -2,7 +2,7 @@
 //! contracts are facts.
 ghost use Rattle.group_model.specs.Answering.{AnswersAreGiven, RequestsAreReplied, StopsAreTold};
 ghost use Rattle.group_model.specs.Counting.{CallsAreCounted};
-ghost use Rattle.group_model.specs.Laws.{GroupsGrow, RepliesStay, StatesStay, DeposedAppendNothing, AgreementLasts, KnowledgeNeverFalls, GroupsStaySound, RefusalsChangeNothing};
+ghost use Rattle.group_model.specs.Laws.{GroupsGrow, RepliesStay, StatesStay, DeposedAppendNothing, AgreementLasts, KnowledgeNeverFalls, GroupsStaySound, JournalsStay, NoneRunsAhead, RefusalsChangeNothing};
 ghost use Rattle.group_model.specs.Sending.{WhatIsSentAgrees};
 
 use ft_base::{canonical_forms_are_of_values, replies_are_given, requests_join};
@@ -17,13 +17,22 @@ pub fn groups_stay_sound()
     canonical_forms_are_of_values();
 }
 
-/// The journal and the views only get more, at their end; time never falls, nor how much has run. So an
-/// accepted request stays what it is, and its reply and each state are the same ever after.
+/// Whatever comes, the journal and the views only get more, at their end; time never falls, nor how much has
+/// run. So an accepted request stays what it is, and its reply and each state are the same ever after.
 pub fn groups_grow()
     ensures grow { GroupsGrow }
     ensures replies { RepliesStay }
     ensures states { StatesStay }
 {}
+
+/// Whatever comes, a journal with each request at most once before its expiration stays one, and no host runs
+/// past its end.
+pub fn journals_stay()
+    ensures once { JournalsStay }
+    ensures ran { NoneRunsAhead }
+{
+    requests_join();
+}
 
 /// A host that knows an older view than the newest appends nothing and calls no servant.
 pub fn deposed_append_nothing()
@@ -40,14 +49,11 @@ pub fn knowledge_never_falls()
     ensures { KnowledgeNeverFalls }
 {}
 
-/// The servant is called once for each accepted entry that is run, once for each entry that a host catches up
-/// with, and once for each order that is applied.
+/// Whatever comes, the servant is called once for each accepted entry that is run, once for each entry that a
+/// host catches up with, and once for each order that is applied.
 pub fn calls_are_counted()
     ensures { CallsAreCounted }
-{
-    requests_join();
-    canonical_forms_are_of_values();
-}
+{}
 
 /// A refusal changes nothing but what its host knows, and what catching up moved. So does a repeat.
 pub fn refusals_change_nothing()

@@ -14,7 +14,7 @@ pub use changes::{Change, ManageFault};
 pub use events::{Event, GroupAnswer, Inner, Out, OutList};
 pub use laws::{
     agreement_lasts, answers_are_given, calls_are_counted, deposed_append_nothing, groups_grow,
-    groups_stay_sound, knowledge_never_falls, refusals_change_nothing, stops_are_told,
-    what_is_sent_agrees,
+    groups_stay_sound, journals_stay, knowledge_never_falls, refusals_change_nothing,
+    stops_are_told, what_is_sent_agrees,
 };
 pub use refusals::Refusal;

@@ -1,5 +1,5 @@
 -- A group at its opening, and after an event.
-use Rattle.std.proofs.Common.{◌≡◌, ℕ, ◌+◌, ◌≤◌, Bool, true, false, List, [], Some, refl, sym, ap, subst, ◌∙◌}
+use Rattle.std.proofs.Common.{◌≡◌, ℕ, ◌+◌, ◌≤◌, Bool, true, false, List, [], ◌∷◌, Some, refl, sym, ap, subst, ◌∙◌}
 use Rattle.std.specs.Prelude.{map}
 use Rattle.ft_base.specs.declared.numbers.GroupId.{GroupId}
 use Rattle.ft_base.specs.declared.views.Style.{Style}
@@ -17,7 +17,7 @@ use Rattle.group_model.specs.Runs.{after_steps}
 use Rattle.group_model.specs.Laws as laws
 use Rattle.shipped_servants.specs.Kinds.{machine_of_kind, number_of, opening_of}
 use Rattle.shipped_servants.specs.declared.kinds.Kind.{Kind}
-use Rattle.script_groups.specs.Acting.{HasTurn, IsActed, IsSoundGroup, MayCome, poisoned}
+use Rattle.script_groups.specs.Acting.{HasTurn, IsActed, MayCome, poisoned}
 use Rattle.script_groups.specs.Groups.{ScriptGroup, acted, group_of, machine_of, opened, opening_of_group}
 use Rattle.script_groups.specs.Standing.{IsStanding}
 use Rattle.script_groups.proofs.Going.{go_on, grow}
@@ -137,16 +137,13 @@ module _ (g : ScriptGroup) (e : Event) (core : CorePicture) (stands : IsStanding
       let it = taken_by kept unfailing.shown core_acted in
       acts_by (acted g e) kept (record { is = refl; told = it.1; calls = it.2 })
 
-  sound_is : IsSoundGroup g
-  sound_is = subst (λ m. Rattle.group_model.specs.Agreeing.IsSound m (group_of g)) kinds_are stands.core_stands.sound
-
   -- and its core stands for it
-  pub stands_on : laws.GroupsGrow → MayCome g e → CoreActed machine_of_kind (group_of g) e answer now before later → is_short answer ≡ false → HasNotFailed answer now.log →
+  pub stands_on : laws.GroupsGrow → CoreActed machine_of_kind (group_of g) e answer now before later → is_short answer ≡ false → HasNotFailed answer now.log →
       IsStanding now (acted g e)
-  stands_on law may core_acted kept unfailing =
+  stands_on law core_acted kept unfailing =
       let it = taken_by kept unfailing.shown core_acted in
       record {
         core_stands = subst (Stands machine_of_kind now) (sym (go_on g e)) it.0;
-        kind = (grow law g e sound_is may).kind ∙ stands.kind;
+        kind = (grow law g (e ∷ [])).kind ∙ stands.kind;
         plan = unfailing.plan;
       }

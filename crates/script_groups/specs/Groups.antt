@@ -3,8 +3,10 @@
 use Rattle.std.specs.Prelude.{ℕ, ◌-◌, ◌==◌, suc, Bool, false, if◌then◌else◌, List, [], ◌∷◌, ◌++◌, length, map, slice_get, sum_by, Option, Some, None, option_map}
 use Rattle.std.specs.Str.{bytes_eq}
 use Rattle.ft_base.specs.Machine.{Machine}
+use Rattle.ft_base.specs.Journal.{reply_at}
 use Rattle.ft_base.specs.Members.{is_member}
 use Rattle.ft_base.specs.declared.numbers.GroupId.{GroupId}
+use Rattle.ft_base.specs.declared.requests.Outcome.{Outcome}
 use Rattle.ft_base.specs.declared.requests.Signature.{Signature}
 use Rattle.ft_base.specs.declared.views.Style.{Style}
 use Rattle.ft_base.specs.declared.views.View.{View}
@@ -12,7 +14,8 @@ use Rattle.group_core.specs.Telling.{shown_view}
 use Rattle.group_model.specs.Events.{turn_of}
 use Rattle.group_model.specs.Openings.{opening_group}
 use Rattle.group_model.specs.Plain.{Common, Group}
-use Rattle.group_model.specs.Runs.{Step, after_steps}
+use Rattle.group_model.specs.Counting.{applied_in, caught_up_in, run_in, total}
+use Rattle.group_model.specs.Runs.{Step, after_steps, calls_of}
 use Rattle.group_model.specs.Turns.{Turn}
 use Rattle.group_model.specs.declared.events.Event.{Event}
 use Rattle.shipped_servants.specs.Kinds.{machine_of_kind, number_of, opening_of}
@@ -53,15 +56,40 @@ common_of g = (group_of g).common
 
 -- ---- events
 
+-- the group with more events behind those that it has had
+abbrev pub with_more : ScriptGroup → List Event → ScriptGroup
+with_more g more = record g { events = g.events ++ more }
+
 abbrev pub turn : ScriptGroup → Event → Turn
 turn g e = turn_of (machine_of g) (group_of g) e false
 
 abbrev pub acted : ScriptGroup → Event → ScriptGroup
-acted g e = record g { events = g.events ++ e ∷ [] }
+acted g e = with_more g (e ∷ [])
 
 -- the same event at each of these groups
 abbrev pub all_acted : Event → List ScriptGroup → List ScriptGroup
 all_acted e gs = map (λ g. acted g e) gs
+
+-- ---- servant calls since its opening
+
+unfoldable pub servant_calls : ScriptGroup → ℕ
+servant_calls g = calls_of (machine_of g) (opening_of_group g) (map unfailing g.events)
+
+-- the accepted entries that were run, those that hosts caught up with, and the orders that were applied
+abbrev pub entries_run : ScriptGroup → ℕ
+entries_run g = total (run_in (machine_of g)) (machine_of g) (opening_of_group g) (map unfailing g.events)
+
+abbrev pub entries_caught_up : ScriptGroup → ℕ
+entries_caught_up g = total (caught_up_in (machine_of g)) (machine_of g) (opening_of_group g) (map unfailing g.events)
+
+abbrev pub orders_applied : ScriptGroup → ℕ
+orders_applied g = total (applied_in (machine_of g)) (machine_of g) (opening_of_group g) (map unfailing g.events)
+
+-- ---- replies
+
+-- the one reply of an accepted entry
+abbrev pub reply_of : ScriptGroup → ℕ → Outcome
+reply_of g i = reply_at (machine_of g) (common_of g).opening (common_of g).journal i
 
 -- ---- a group is made
 

@@ -1,7 +1,10 @@
--- What holds of a group of a script after one more event.
-use Rattle.std.specs.Prelude.{◌≡◌, ℕ, ◌<◌, ◌≤◌, false, List, length, Some}
+-- What holds of a group of a script, and after more events.
+use Rattle.std.specs.Prelude.{◌≡◌, ℕ, ◌+◌, ◌<◌, ◌≤◌, false, List, length, Some}
 use Rattle.std.specs.List.{AllByRecursion}
+use Rattle.ft_base.specs.Journal.{AtMostOnce}
 use Rattle.ft_base.specs.Members.{AreDifferent}
+use Rattle.ft_base.specs.declared.numbers.GroupId.{GroupId}
+use Rattle.ft_base.specs.declared.views.Style.{Style}
 use Rattle.ft_base.specs.declared.limits.TheConstants.{HOST_LIMIT}
 use Rattle.ft_base.specs.declared.views.TheConstants.{MEMBER_LIMIT}
 use Rattle.ft_base.specs.declared.decisions.Decision.{Decision}
@@ -21,7 +24,8 @@ use Rattle.group_model.specs.Events.{after_event}
 use Rattle.group_model.specs.Laws.{Grows, Lasts}
 use Rattle.group_model.specs.Sending.{brought, sent_by}
 use Rattle.script_groups.specs.Acting.{IsSoundGroup, MayCome}
-use Rattle.script_groups.specs.Groups.{ScriptGroup, acted, common_of, group_of, machine_of, turn}
+use Rattle.script_groups.specs.Groups.{ScriptGroup, acted, common_of, entries_caught_up, entries_run, group_of, machine_of, opened, orders_applied, reply_of, servant_calls, turn, with_more}
+use Rattle.shipped_servants.specs.declared.kinds.Kind.{Kind}
 
 -- its plain group is that after the event
 abbrev pub HistoriesGoOn : Type 0
@@ -31,9 +35,29 @@ HistoriesGoOn = (g : ScriptGroup) (e : Event) → group_of (acted g e) ≡ after
 abbrev pub GroupsStaySound : Type 0
 GroupsStaySound = (g : ScriptGroup) (e : Event) → IsSoundGroup g → MayCome g e → IsSoundGroup (acted g e)
 
--- its journal and its views only get more
+-- Behind more events, whatever they are, its journal and its views only got more.
 abbrev pub GroupsGrow : Type 0
-GroupsGrow = (g : ScriptGroup) (e : Event) → IsSoundGroup g → MayCome g e → Grows (common_of g) (common_of (acted g e))
+GroupsGrow = (g : ScriptGroup) (more : List Event) → Grows (common_of g) (common_of (with_more g more))
+
+-- An accepted entry's reply is what it was.
+abbrev pub RepliesStay : Type 0
+RepliesStay = (g : ScriptGroup) (more : List Event) (i : ℕ) → i < length (common_of g).journal → reply_of (with_more g more) i ≡ reply_of g i
+
+-- Each request was accepted at most once before its expiration.
+abbrev pub JournalsAcceptOnce : Type 0
+JournalsAcceptOnce = (g : ScriptGroup) → AtMostOnce (common_of g).journal
+
+-- The servant is called by turns alone: once for each accepted entry that was run, for each entry that a host caught
+-- up with, and for each order that was applied.
+abbrev pub CallsGoOn : Type 0
+CallsGoOn = (g : ScriptGroup) (e : Event) → servant_calls (acted g e) ≡ servant_calls g + (turn g e).calls
+
+abbrev pub CallsAreCounted : Type 0
+CallsAreCounted = (g : ScriptGroup) → servant_calls g ≡ entries_run g + entries_caught_up g + orders_applied g
+
+-- A group that has had no event has called no servant.
+abbrev pub NoneCalledYet : Type 0
+NoneCalledYet = (id : GroupId) (name : List ℕ) (kind : Kind) (style : Style) (members : List ℕ) → servant_calls (opened id name kind style members) ≡ 0
 
 -- what could come to it still can
 abbrev pub EventsLast : Type 0

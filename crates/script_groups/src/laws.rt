@@ -1,8 +1,9 @@
 //! How a group of a script goes on. The functions do nothing: their contracts are facts.
-ghost use Rattle.script_groups.specs.Laws.{AnswersAreInForm, EventsLast, GroupsGrow, GroupsStaySound, HistoriesGoOn, SentMayCome, ShownAreViews};
+ghost use Rattle.script_groups.specs.Laws.{AnswersAreInForm, CallsAreCounted, CallsGoOn, EventsLast, GroupsGrow, GroupsStaySound, HistoriesGoOn, JournalsAcceptOnce, NoneCalledYet, RepliesStay, SentMayCome, ShownAreViews};
 
 use group_model::{
-    agreement_lasts, answers_are_given, groups_grow, groups_stay_sound, what_is_sent_agrees,
+    agreement_lasts, answers_are_given, groups_grow, groups_stay_sound, journals_stay,
+    what_is_sent_agrees,
 };
 
 /// Behind one more event its plain group is the one after the event, and sound; what could come to it still
@@ -10,14 +11,33 @@ use group_model::{
 pub fn groups_go_on()
     ensures is { HistoriesGoOn }
     ensures sound { GroupsStaySound }
-    ensures grow { GroupsGrow }
     ensures last { EventsLast }
     ensures sent { SentMayCome }
 {
     groups_stay_sound();
-    groups_grow();
     agreement_lasts();
     what_is_sent_agrees();
+}
+
+/// Whatever events a group has, its journal and its views only get more, an entry's reply stays what it is, and
+/// each request is accepted at most once before its expiration.
+pub fn groups_keep_entries()
+    ensures grow { GroupsGrow }
+    ensures replies { RepliesStay }
+    ensures once { JournalsAcceptOnce }
+{
+    groups_grow();
+    journals_stay();
+}
+
+/// A group's servant is called by the turns of its events alone: once for each accepted entry that was run, once
+/// for each entry that a host caught up with, and once for each order that was applied.
+pub fn calls_are_counted()
+    ensures none { NoneCalledYet }
+    ensures go_on { CallsGoOn }
+    ensures counted { CallsAreCounted }
+{
+    group_model::calls_are_counted();
 }
 
 /// A request is answered in the form that its operation gives, by a named exception, or by the reference of a

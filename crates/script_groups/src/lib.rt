@@ -10,4 +10,6 @@ mod showing;
 mod tests;
 
 pub use groups::ScriptGroup;
-pub use laws::{answers_are_in_form, groups_go_on, shown_are_views};
+pub use laws::{
+    answers_are_in_form, calls_are_counted, groups_go_on, groups_keep_entries, shown_are_views,
+};

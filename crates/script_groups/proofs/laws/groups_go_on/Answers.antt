@@ -1,4 +1,4 @@
-use Rattle.script_groups.proofs.Going.{go_on, grow, last, sent, stay_sound}
+use Rattle.script_groups.proofs.Going.{go_on, last, sent, stay_sound}
 use Rattle.script_groups.proofs.laws.groups_go_on.Goals as goal
 
 pub returns-clause-is : goal.returns-clause-is
@@ -6,9 +6,6 @@ returns-clause-is c = go_on
 
 pub returns-clause-sound : goal.returns-clause-sound
 returns-clause-sound c = stay_sound c.groups_stay_sound.ensures
-
-pub returns-clause-grow : goal.returns-clause-grow
-returns-clause-grow c = grow c.groups_grow.ensures.grow
 
 pub returns-clause-last : goal.returns-clause-last
 returns-clause-last c = last c.agreement_lasts.ensures

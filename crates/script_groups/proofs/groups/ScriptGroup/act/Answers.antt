@@ -27,7 +27,7 @@ invariant_of-self-2 g c = λ kept.
     let acts = c.act-answer.ensures.acted (group_of before) stands.core_stands (agrees_as before c.args.event core stands answer c.act-answer.new.self c.args.steps.now c.act-answer.new.steps may) in
     let unfailing = c.unfailing_logs_show_no_fault.ensures c.args.event answer core.log c.act-answer.new.self.log c.act-answer.ensures.wrote stands.plan in
     subst (λ es. IsStanding c.act-answer.new.self (record before { events = es })) (sym c.with-history.ensures)
-    (stands_on before c.args.event core stands answer c.act-answer.new.self c.args.steps.now c.act-answer.new.steps c.groups_grow.ensures.grow may acts (sym c.is_short.ensures ∙ c.if-is_short.false) unfailing)
+    (stands_on before c.args.event core stands answer c.act-answer.new.self c.args.steps.now c.act-answer.new.steps c.groups_grow.ensures.grow acts (sym c.is_short.ensures ∙ c.if-is_short.false) unfailing)
 
 pub returns : goal.returns
 returns g c =
