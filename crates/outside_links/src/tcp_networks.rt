@@ -1,0 +1,195 @@
+ghost use Rattle.std.specs.Prelude.{◌≡◌, IfOk, MatchOption, false};
+ghost use Rattle.ft_outside.specs.Outside.{next_count};
+
+use crate::links::{Acceptor, Dialer, Network};
+use crate::tcp_links::TcpLink;
+use ft_base::Name;
+use outside_schedules::{add_counts, next_count};
+use std::io;
+use std::net::{Ipv4Addr, Net, TcpListener, TcpStream};
+
+// An open link that sends small pieces at once.
+fn link_over(stream: TcpStream) -> io::Result<TcpLink>
+    ensures { IfOk result (λ link. (link.faults ≡ 0) × (link.is_closed ≡ false)) }
+{
+    stream.set_nodelay(true)?;
+    Ok(TcpLink::new(stream))
+}
+
+/// Waits for links at a port of loopback.
+#[derive(Drop)]
+pub struct TcpDoor {
+    listener: TcpListener,
+    port: u16,
+    faults: u64,
+}
+
+impl TcpDoor {
+    fn take_in(&self) -> io::Result<TcpLink>
+        ensures { IfOk result (λ link. (link.faults ≡ 0) × (link.is_closed ≡ false)) }
+    {
+        let (stream, _) = self.listener.accept()?;
+        link_over(stream)
+    }
+}
+
+impl Acceptor for TcpDoor {
+    type Link = TcpLink;
+
+    ghost use Rattle.std.specs.Prelude.{None};
+
+    ghost links = { λ _. None };
+
+    ghost count = { λ door. door.faults };
+
+    fn accept(&mut self) -> Option<TcpLink> {
+        match self.take_in() {
+            Ok(link) => Some(link),
+            Err(_) => {
+                self.faults = next_count(self.faults);
+                None
+            }
+        }
+    }
+
+    fn port(&self) -> u16 {
+        self.port
+    }
+}
+
+/// Dials ports of loopback, whatever the host is called.
+#[derive(Drop)]
+pub struct TcpCaller<R: Net<Listener = TcpListener, Stream = TcpStream> + Send + Drop> {
+    rt: R,
+    faults: u64,
+}
+
+// A link to this port of loopback.
+fn dialed<R: Net<Listener = TcpListener, Stream = TcpStream>>(
+    rt: &R,
+    port: u16,
+) -> io::Result<TcpLink>
+    ensures { IfOk result (λ link. (link.faults ≡ 0) × (link.is_closed ≡ false)) }
+{
+    let stream = TcpStream::connect(rt, (Ipv4Addr::LOCALHOST, port))?;
+    link_over(stream)
+}
+
+impl<R: Net<Listener = TcpListener, Stream = TcpStream> + Send + Drop> Dialer for TcpCaller<R> {
+    type Link = TcpLink;
+
+    ghost use Rattle.std.specs.Prelude.{None};
+
+    ghost links = { λ _. None };
+
+    ghost sent = { λ _. None };
+
+    ghost lent = { λ _. None };
+
+    ghost count = { λ caller. caller.faults };
+
+    fn dial(&mut self, _host: &Name, port: u16) -> Option<TcpLink> {
+        match dialed(&self.rt, port) {
+            Ok(link) => Some(link),
+            Err(_) => {
+                self.faults = next_count(self.faults);
+                None
+            }
+        }
+    }
+
+    fn take_back(&mut self, link: TcpLink) {
+        self.faults = add_counts(self.faults, link.faults());
+    }
+}
+
+/// The network of loopback, over sockets of the system, which send small writes without delay.
+#[derive(Drop)]
+pub struct TcpNetwork<R: Net<Listener = TcpListener, Stream = TcpStream> + Copy + Send + Drop> {
+    rt: R,
+    faults: u64,
+    broken: u64,
+}
+
+// A door at this port of loopback, or at a free one for 0.
+fn opened<R: Net<Listener = TcpListener, Stream = TcpStream>>(
+    rt: &R,
+    port: u16,
+) -> io::Result<TcpDoor>
+    ensures { IfOk result (λ door. door.faults ≡ 0) }
+{
+    let listener = TcpListener::bind(rt, (Ipv4Addr::LOCALHOST, port))?;
+    let port = listener.local_addr()?.port();
+    Ok(TcpDoor {
+        listener,
+        port,
+        faults: 0,
+    })
+}
+
+impl<R: Net<Listener = TcpListener, Stream = TcpStream> + Copy + Send + Drop> TcpNetwork<R> {
+    /// Doors at free ports.
+    pub fn new(rt: R) -> TcpNetwork<R>
+        ensures faults { result.faults ≡ 0 }
+        ensures broken { result.broken ≡ 0 }
+    {
+        TcpNetwork {
+            rt,
+            faults: 0,
+            broken: 0,
+        }
+    }
+
+    /// A door at this port, which is a fault where it is taken.
+    pub fn bind_at(&mut self, port: u16) -> Option<TcpDoor>
+        ensures fresh { MatchOption result (Unit {0}) (λ door. door.faults ≡ 0) }
+        ensures faults { MatchOption result (self.new.faults ≡ next_count self.old.faults) (λ _. self.new.faults ≡ self.old.faults) }
+        ensures broken { self.new.broken ≡ self.old.broken }
+    {
+        match opened(&self.rt, port) {
+            Ok(door) => Some(door),
+            Err(_) => {
+                self.faults = next_count(self.faults);
+                None
+            }
+        }
+    }
+}
+
+impl<R: Net<Listener = TcpListener, Stream = TcpStream> + Copy + Send + Drop + 'static> Network
+    for TcpNetwork<R> {
+    type Link = TcpLink;
+
+    type Door = TcpDoor;
+
+    type Caller = TcpCaller<R>;
+
+    ghost use Rattle.std.specs.Prelude.{None};
+
+    ghost callers = { λ _. None };
+
+    ghost count = { λ network. network.faults };
+
+    ghost broken = { λ network. network.broken };
+
+    fn bind(&mut self) -> Option<TcpDoor> {
+        match opened(&self.rt, 0) {
+            Ok(door) => Some(door),
+            Err(_) => {
+                self.faults = next_count(self.faults);
+                None
+            }
+        }
+    }
+
+    fn caller(&mut self) -> TcpCaller<R> {
+        TcpCaller {
+            rt: self.rt,
+            faults: 0,
+        }
+    }
+
+    fn take_caller(&mut self, caller: TcpCaller<R>) {
+        self.broken = add_counts(self.broken, caller.faults);
+    }
+}
