@@ -5,6 +5,8 @@ use Rattle.ft_outside.specs.declared.sources.Got.{Got}
 use Rattle.ft_outside.specs.declared.sources.Got.TheVariants as gots
 use Rattle.ft_outside.specs.declared.sinks.Put.{Put}
 use Rattle.ft_outside.specs.declared.sinks.Put.TheVariants as puts
+use Rattle.ft_outside.specs.declared.sinks.Flush.{Flush}
+use Rattle.ft_outside.specs.declared.sinks.Flush.TheVariants as flushes
 use Rattle.ft_outside.specs.declared.wholes.WholeWrite.{WholeWrite}
 use Rattle.ft_outside.specs.declared.wholes.WholeWrite.TheVariants as writes
 
@@ -27,6 +29,11 @@ abbrev pub IsWritten : Option (List ℕ) → Option (List ℕ) → ℕ → ℕ �
 IsWritten before holds count now piece (puts.Took n) =
     (0 < n) × (n ≤ length piece) × (holds ≡ option_map (λ held. held ++ take n piece) before) × (now ≡ count)
 IsWritten before holds count now piece puts.Failed = (holds ≡ before) × (now ≡ next_count count)
+
+-- a flush: what was taken stays taken; a failed flush counts as one fault
+abbrev pub IsFlushed : Option (List ℕ) → Option (List ℕ) → ℕ → ℕ → Flush → Type 0
+IsFlushed before holds count now flushes.Done = (holds ≡ before) × (now ≡ count)
+IsFlushed before holds count now flushes.Failed = (holds ≡ before) × (now ≡ next_count count)
 
 -- a text was written whole with no fault, or one write failed after a front of it
 abbrev pub IsWrittenWhole : Option (List ℕ) → Option (List ℕ) → ℕ → ℕ → List ℕ → WholeWrite → Type 0

@@ -23,3 +23,7 @@ IsReadOfDevice before left into gots.Failed = Keeps before left
 abbrev pub IsWriteToDevice : Option (List ℕ) → Option (List ℕ) → List ℕ → Put → Type 0
 IsWriteToDevice before holds piece (puts.Took n) = Appends before holds (take n piece)
 IsWriteToDevice before holds piece puts.Failed = Keeps before holds
+
+-- Of such a writer: a flush changes nothing of what it took.
+abbrev pub IsFlushOfDevice : Option (List ℕ) → Option (List ℕ) → Type 0
+IsFlushOfDevice before holds = Keeps before holds

@@ -19,7 +19,7 @@ pub use keepers::{Keeper, Kept};
 pub use mem_keepers::MemKeeper;
 pub use mem_sinks::MemSink;
 pub use mem_sources::MemSource;
-pub use sinks::{Put, Sink};
+pub use sinks::{Flush, Put, Sink};
 pub use sources::{Got, Source};
 pub use standard::{StdSink, StdSource};
 pub use wholes::{WholeWrite, write_all};

@@ -1,15 +1,15 @@
 ghost use Rattle.std.specs.Prelude.{◌≡◌, ℕ, ◌<◌, Some, IfOk, [], length};
-ghost use Rattle.ft_outside.specs.Outside.{IsWritten};
+ghost use Rattle.ft_outside.specs.Outside.{IsFlushed, IsWritten};
 ghost use Rattle.ft_outside.specs.Memory.{IsWriteToStore};
 
 use crate::schedules::Schedule;
-use crate::sinks::{Put, Sink};
+use crate::sinks::{Flush, Put, Sink};
 use ft_base::NoMemory;
 use std::alloc::Global;
 use std::marker::Model;
 
 /// A sink in memory with room for a stated number of bytes, which fails past it and where it was
-/// told to. A write takes no memory.
+/// told to. A write takes no memory. Nothing ever waits in it.
 #[derive(Debug, Drop)]
 pub struct MemSink {
     bytes: Vec<u8>,
@@ -79,5 +79,14 @@ impl Sink for MemSink {
         ensures exact { IsWriteToStore self.old self.new piece.now result }
     {
         self.store(piece)
+    }
+
+    // It is no call that a schedule counts.
+    fn flush(&mut self) -> Flush
+        ensures flushed { IsFlushed (Some self.old.held) (Some self.new.held) self.old.schedule.faults self.new.schedule.faults result }
+        ensures exact { self.new ≡ self.old }
+        ensures done { result ≡ Flush.Done }
+    {
+        Flush::Done
     }
 }

@@ -1,9 +1,9 @@
 ghost use Rattle.std.specs.Prelude.{◌≡◌, ℕ, ◌<◌, None, length};
-ghost use Rattle.ft_outside.specs.Outside.{IsRead, IsWritten};
-ghost use Rattle.ft_outside.specs.Standard.{IsReadOfDevice, IsWriteToDevice};
+ghost use Rattle.ft_outside.specs.Outside.{IsFlushed, IsRead, IsWritten};
+ghost use Rattle.ft_outside.specs.Standard.{IsFlushOfDevice, IsReadOfDevice, IsWriteToDevice};
 
 use crate::schedules::next_count;
-use crate::sinks::{Put, Sink};
+use crate::sinks::{Flush, Put, Sink};
 use crate::sources::{Got, Source};
 use std::io::{Read, Write};
 use std::marker::Model;
@@ -17,8 +17,9 @@ pub struct StdSource<R: Read + Drop> {
 }
 
 /// A sink over a writer of the system, as `rt.stdout()` and `rt.stderr()`. A write that answers an
-/// error, or takes nothing, is a fault. A run sees its number of faults alone, and nothing of its
-/// bytes.
+/// error, or takes nothing, is a fault, and so is a flush that answers an error. Over a `BufWriter`
+/// what was written waits there until it is flushed. A run sees its number of faults alone, and
+/// nothing of its bytes.
 #[derive(Debug, Drop)]
 pub struct StdSink<W: Write + Drop> {
     writer: W,
@@ -100,6 +101,19 @@ impl<W: Write + Drop> Sink for StdSink<W> {
                 Put::Failed
             }
             Ok(count) => Put::Took(count),
+        }
+    }
+
+    fn flush(&mut self) -> Flush
+        ensures flushed { IsFlushed None None self.old.faults self.new.faults result }
+        ensures device { IsFlushOfDevice (W.contents self.old.device) (W.contents self.new.device) }
+    {
+        match self.writer.flush() {
+            Ok(()) => Flush::Done,
+            Err(_) => {
+                self.faults = next_count(self.faults);
+                Flush::Failed
+            }
         }
     }
 }

@@ -1,10 +1,10 @@
 use crate::{
-    Got, Keeper, Kept, MemKeeper, MemSink, MemSource, Put, Sink, Source, StdSink, StdSource,
+    Flush, Got, Keeper, Kept, MemKeeper, MemSink, MemSource, Put, Sink, Source, StdSink, StdSource,
     WholeWrite, write_all,
 };
 use ft_base::{Bytes, NoMemory};
 use std::io;
-use std::io::Write;
+use std::io::{BufWriter, Write};
 
 fn record_is(keeper: &MemKeeper, index: u64, text: &[u8]) -> bool {
     match keeper.read(index) {
@@ -33,6 +33,7 @@ fn a_sink_fails_where_told_and_past_its_room(rt: HostRuntime) -> Result<(), NoMe
     assert_eq!(rt; sink.write(b"abc"), Put::Took(3));
     assert_eq!(rt; sink.write(b"d"), Put::Failed);
     assert_eq!(rt; sink.write(b"def"), Put::Failed);
+    assert_eq!(rt; sink.flush(), Flush::Done);
     assert_eq!(rt; sink.write(b"de"), Put::Took(2));
     assert_eq!(rt; sink.bytes(), b"abcde".as_slice());
     Ok(())
@@ -90,6 +91,28 @@ fn a_short_write_is_told_as_short(rt: HostRuntime) {
     assert_eq!(rt; write_all(&mut sink, b"cde"), WholeWrite::All);
     assert_eq!(rt; sink.write(b"f"), Put::Failed);
     assert_eq!(rt; write_all(&mut sink, b"f"), WholeWrite::Failed);
+}
+
+#[test]
+fn what_waits_is_out_after_a_flush(rt: HostRuntime) -> io::Result<()> {
+    let mut device = BufWriter::with_capacity(rt.alloc(), 8, Vec::new(rt.alloc()))?;
+    assert_eq!(rt;
+        write_all(&mut StdSink::new(&mut device), b"abc"),
+        WholeWrite::All
+    );
+    assert!(rt; device.get_ref().is_empty());
+    assert_eq!(rt; StdSink::new(&mut device).flush(), Flush::Done);
+    assert_eq!(rt; device.get_ref().as_slice(), b"abc".as_slice());
+    Ok(())
+}
+
+#[test]
+fn a_flush_that_fails_is_told(rt: HostRuntime) -> io::Result<()> {
+    let device = BufWriter::with_capacity(rt.alloc(), 8, ShortWriter { taken: 0 })?;
+    let mut sink = StdSink::new(device);
+    assert_eq!(rt; write_all(&mut sink, b"abcdef"), WholeWrite::All);
+    assert_eq!(rt; sink.flush(), Flush::Failed);
+    Ok(())
 }
 
 #[test]

@@ -13,6 +13,9 @@ use std::rt::Env;
 use std::sync::ledger::{Blank, Ledger};
 use std::{env, io};
 
+// The most bytes of output that wait.
+const OUTPUT: usize = 65_536;
+
 // The words after the program's name; none where one of them is no text, since no form has such.
 fn words_of(rt: &(impl Env + AllocGlobal)) -> io::Result<Vec<String>> {
     let mut words = Vec::new(rt.alloc());
@@ -22,7 +25,8 @@ fn words_of(rt: &(impl Env + AllocGlobal)) -> io::Result<Vec<String>> {
     Ok(words)
 }
 
-// The run with the real devices; servant calls are counted in proofs alone.
+// The run with the real devices. Its output waits in a buffer, and its errors do not. Servant calls
+// are counted in proofs alone.
 fn run_counted<L: Ledger>(rt: &HostRuntime, words: &[String], blank: Blank) -> u8
     requires name { blank.name ≡ L.name }
     requires parts { blank.parts ≡ L.parts }
@@ -30,7 +34,10 @@ fn run_counted<L: Ledger>(rt: &HostRuntime, words: &[String], blank: Blank) -> u
 {
     let mut steps = Steps::<L>::new(blank);
     let mut input = StdSource::new(rt.reader());
-    let mut out = StdSink::new(rt.stdout());
+    let mut out = match io::BufWriter::with_capacity(rt.alloc(), OUTPUT, rt.stdout()) {
+        Ok(writer) => StdSink::new(writer),
+        Err(_) => return starved(rt),
+    };
     let mut err = StdSink::new(rt.stderr());
     ftc_run(
         rt.alloc(),
@@ -42,7 +49,7 @@ fn run_counted<L: Ledger>(rt: &HostRuntime, words: &[String], blank: Blank) -> u
     )
 }
 
-// The status where no memory is found for the words.
+// The status where no memory is found for the words, or for the output to wait in.
 fn starved(rt: &HostRuntime) -> u8
     ensures { result ≡ 6 }
 {

@@ -1,11 +1,11 @@
 ghost use Rattle.std.specs.Prelude.{◌≡◌, ◌<◌, IfOk, Some, length, [], false};
-ghost use Rattle.ft_outside.specs.Outside.{IsRead, IsWritten};
+ghost use Rattle.ft_outside.specs.Outside.{IsFlushed, IsRead, IsWritten};
 ghost use Rattle.outside_schedules.specs.Counts.{schedule_of};
 ghost use Rattle.outside_links.specs.Wires.{IsReceived, IsSent, shut};
 
 use crate::links::Link;
 use ft_base::NoMemory;
-use ft_outside::{Got, Put, Sink, Source};
+use ft_outside::{Flush, Got, Put, Sink, Source};
 use outside_schedules::Schedule;
 use std::alloc::Global;
 use std::marker::Model;
@@ -140,6 +140,15 @@ impl Sink for MemLink {
         ensures exact { IsSent self.old self.new piece.now result }
     {
         self.put_out(piece)
+    }
+
+    // nothing waits in a link
+    fn flush(&mut self) -> Flush
+        ensures flushed { IsFlushed (Some self.old.held) (Some self.new.held) self.old.schedule.faults self.new.schedule.faults result }
+        ensures exact { self.new ≡ self.old }
+        ensures done { result ≡ Flush.Done }
+    {
+        Flush::Done
     }
 }
 

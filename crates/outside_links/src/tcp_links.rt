@@ -2,7 +2,7 @@ ghost use Rattle.std.specs.Prelude.{◌≡◌, ◌<◌, true, false, None, lengt
 ghost use Rattle.ft_outside.specs.Outside.{IsRead, IsWritten};
 
 use crate::links::Link;
-use ft_outside::{Got, Put, Sink, Source};
+use ft_outside::{Flush, Got, Put, Sink, Source};
 use outside_schedules::next_count;
 use std::io::{Read, Write};
 use std::net::{Shutdown, TcpStream};
@@ -90,6 +90,11 @@ impl Sink for TcpLink {
 
     fn write(&mut self, piece: &[u8]) -> Put {
         self.put_out(piece)
+    }
+
+    // nothing waits in a link
+    fn flush(&mut self) -> Flush {
+        Flush::Done
     }
 }
 

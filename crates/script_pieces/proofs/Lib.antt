@@ -4,3 +4,4 @@ pub mod Resumes
 pub mod Feedings
 pub mod Wholes
 pub mod Endings
+pub mod Handing

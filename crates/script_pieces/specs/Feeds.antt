@@ -1,6 +1,6 @@
 -- A run of a script that comes in pieces: what still comes of it from some point on, and what a part
 -- of it did.
-use Rattle.std.specs.Prelude.{◌≡◌, ℕ, ◌+◌, ◌==◌, ◌≤◌, nat_lt, if◌then◌else◌, false, List, [], ◌∷◌, ◌++◌, length, take, Option, Some, None, option_map}
+use Rattle.std.specs.Prelude.{◌≡◌, ℕ, ◌+◌, ◌==◌, ◌≤◌, ◌⊎◌, nat_lt, if◌then◌else◌, false, List, [], ◌∷◌, ◌++◌, length, take, Option, Some, None, option_map}
 use Rattle.ft_outside.specs.Outside.{next_count}
 use Rattle.script_pieces.specs.Runs.{LineEffect, Goes, Stops, calls_of, Rules, RunEffect, script_limit, lines_of, text_of, no_effect, refusal, behind, onward, run_of_lines, whole_lines}
 use Rattle.script_pieces.specs.declared.actors.LineResult.{LineResult}
@@ -168,3 +168,16 @@ IsDone run before after (feds.Refused number why) =
     (run.refused ≡ Some (number, why)) × IsAdded before after (part_of run)
 IsDone run before after feds.WriteFailed = (part : PartEffect) × IsFront part run × IsAddedAtFault before after part
 IsDone run before after feds.NoMemory = (part : PartEffect) × IsFront part run × IsAddedWithin before after part
+
+-- it went on, or a line was refused
+abbrev pub IsUnbroken : {Why : Type 0} → FeedResult Why → Type 0
+IsUnbroken feds.On = Unit {0}
+IsUnbroken (feds.Refused number why) = Unit {0}
+IsUnbroken feds.WriteFailed = ⊥
+IsUnbroken feds.NoMemory = ⊥
+
+-- the output of what was fed was handed on, and nothing else changed; or that failed, as one fault
+abbrev pub IsHandedOn : {Why : Type 0} → FeedResult Why → Option (List ℕ) → Option (List ℕ) → ℕ → ℕ → FeedResult Why → Type 0
+IsHandedOn fed before holds count now result =
+    ((result ≡ fed) × (holds ≡ before) × (now ≡ count))
+    ⊎ (IsUnbroken fed × (result ≡ feds.WriteFailed) × (holds ≡ before) × (now ≡ next_count count))

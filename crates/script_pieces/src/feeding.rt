@@ -59,8 +59,9 @@ impl Pieces {
         })
     }
 
-    /// Feeds a piece of the script: acts each line that ends in it, and writes the output of one
-    /// before the next is acted. It stops at the first refusal or fault, and has then no more use.
+    /// Feeds a piece of the script: acts each line that ends in it, and writes the output of one to
+    /// the sink, where it may wait, before the next is acted. It stops at the first refusal or fault,
+    /// and has then no more use. Whoever feeds flushes the sink before the next piece is read.
     pub fn feed<A: Actor, B: Sink, L: Ledger>(
         &mut self,
         alloc: Global,

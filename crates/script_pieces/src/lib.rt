@@ -1,6 +1,6 @@
-//! The run of a script: its lines come in pieces of any size, each whole line is acted, and its
-//! output is written before the next line is acted. What a line does is left to [`Actor`]; what a run
-//! does is defined over whole lines alone, in specs/Runs.antt.
+//! The run of a script: its lines come in pieces of any size, each whole line is acted, and the
+//! output of the lines of a piece is out before the next piece is read. What a line does is left to
+//! [`Actor`]; what a run does is defined over whole lines alone, in specs/Runs.antt.
 #![tactic(auto)]
 
 mod actors;

@@ -2,8 +2,9 @@ ghost use Rattle.std.specs.Prelude.{◌≡◌, ◌<◌, ◌∷◌, ◌++◌, [],
 
 use crate::{Actor, FeedResult, LineResult, Pieces, RunEnd, run_script};
 use ft_base::{Bytes, NoMemory, Steps};
-use ft_outside::{MemSink, MemSource};
+use ft_outside::{MemSink, MemSource, StdSink};
 use std::alloc::Global;
+use std::io::{BufWriter, Cursor};
 use std::marker::Brand;
 use std::process::Abort;
 use std::sync::ledger::{Blank, Ledger};
@@ -88,6 +89,43 @@ fn each_script<L: Ledger>(rt: &impl Abort, alloc: Global, blank: Blank) -> Resul
 #[test]
 fn a_script_is_run_to_its_end_or_a_fault(rt: HostRuntime) -> Result<(), NoMemory> {
     each_script::<Brand>(&rt, rt.alloc(), Blank::new(1))
+}
+
+// Runs such a script over a sink whose output waits in a buffer, before a device that takes four
+// bytes.
+fn runs_late<L: Ledger>(
+    alloc: Global,
+    script: &[u8],
+    fails: &[u64],
+    steps: &mut Steps<L>,
+) -> Result<RunEnd<bool>, NoMemory> {
+    let mut input = MemSource::new(alloc, script, fails)?;
+    let device = match BufWriter::with_capacity(alloc, 64, Cursor::new([0u8; 4])) {
+        Ok(device) => device,
+        Err(_) => return Err(NoMemory),
+    };
+    let mut out = StdSink::new(device);
+    Ok(run_script(alloc, &mut Echo { last: 0 }, &mut input, &mut out, steps))
+}
+
+fn each_flush<L: Ledger>(rt: &impl Abort, alloc: Global, blank: Blank) -> Result<(), NoMemory>
+    requires name { blank.name ≡ L.name }
+    requires parts { blank.parts ≡ L.parts }
+    requires some { 0 < blank.parts }
+{
+    let mut steps = Steps::<L>::new(blank);
+    let ended = runs_late(alloc, b"abc", &[], &mut steps)?;
+    assert!(rt; matches!(ended, RunEnd::Done));
+    let ended = runs_late(alloc, b"ab\ncd", &[], &mut steps)?;
+    assert!(rt; matches!(ended, RunEnd::WriteFailed));
+    let ended = runs_late(alloc, b"ab\ncd\n", &[2], &mut steps)?;
+    assert!(rt; matches!(ended, RunEnd::WriteFailed));
+    Ok(())
+}
+
+#[test]
+fn what_waits_is_out_before_more_is_read(rt: HostRuntime) -> Result<(), NoMemory> {
+    each_flush::<Brand>(&rt, rt.alloc(), Blank::new(1))
 }
 
 // Feeds a script in pieces of one byte, and ends it.

@@ -37,7 +37,7 @@ returns-in-On g c =
     over_end g.A.Actor.rules c.args.acts.now c.pieces.acts c.pieces.pieces
     (outside (g.S.Source.left c.args.input.now) (g.S.Source.count c.args.input.now) (trace (g.B.Sink.holds c.args.out.now) (g.B.Sink.count c.args.out.now) c.args.steps.now))
     (outside (g.S.Source.left c.pieces.input) (g.S.Source.count c.pieces.input) (trace (g.B.Sink.holds c.pieces.out) (g.B.Sink.count c.pieces.out) c.pieces.steps))
-    (g.S.Source.left c.read.new.self) (g.S.Source.count c.read.new.self) (trace (g.B.Sink.holds c.finish.new.out) (g.B.Sink.count c.finish.new.out) c.finish.new.steps)
+    (g.S.Source.left c.read.new.self) (g.S.Source.count c.read.new.self) (trace (g.B.Sink.holds c.finish_out.new.out) (g.B.Sink.count c.finish_out.new.out) c.finish_out.new.steps)
     c.read.new.into feds.On c.pieces.invariant.0 c.in-End.ensures c.in-On.ensures
 
 pub returns-in-Refused : goal.returns-in-Refused
@@ -45,7 +45,7 @@ returns-in-Refused g c =
     over_end g.A.Actor.rules c.args.acts.now c.pieces.acts c.pieces.pieces
     (outside (g.S.Source.left c.args.input.now) (g.S.Source.count c.args.input.now) (trace (g.B.Sink.holds c.args.out.now) (g.B.Sink.count c.args.out.now) c.args.steps.now))
     (outside (g.S.Source.left c.pieces.input) (g.S.Source.count c.pieces.input) (trace (g.B.Sink.holds c.pieces.out) (g.B.Sink.count c.pieces.out) c.pieces.steps))
-    (g.S.Source.left c.read.new.self) (g.S.Source.count c.read.new.self) (trace (g.B.Sink.holds c.finish.new.out) (g.B.Sink.count c.finish.new.out) c.finish.new.steps)
+    (g.S.Source.left c.read.new.self) (g.S.Source.count c.read.new.self) (trace (g.B.Sink.holds c.finish_out.new.out) (g.B.Sink.count c.finish_out.new.out) c.finish_out.new.steps)
     c.read.new.into (feds.Refused c.in-Refused.number c.in-Refused.why) c.pieces.invariant.0 c.in-End.ensures c.in-Refused.ensures
 
 pub returns-in-WriteFailed : goal.returns-in-WriteFailed
@@ -53,7 +53,7 @@ returns-in-WriteFailed g c =
     over_end g.A.Actor.rules c.args.acts.now c.pieces.acts c.pieces.pieces
     (outside (g.S.Source.left c.args.input.now) (g.S.Source.count c.args.input.now) (trace (g.B.Sink.holds c.args.out.now) (g.B.Sink.count c.args.out.now) c.args.steps.now))
     (outside (g.S.Source.left c.pieces.input) (g.S.Source.count c.pieces.input) (trace (g.B.Sink.holds c.pieces.out) (g.B.Sink.count c.pieces.out) c.pieces.steps))
-    (g.S.Source.left c.read.new.self) (g.S.Source.count c.read.new.self) (trace (g.B.Sink.holds c.finish.new.out) (g.B.Sink.count c.finish.new.out) c.finish.new.steps)
+    (g.S.Source.left c.read.new.self) (g.S.Source.count c.read.new.self) (trace (g.B.Sink.holds c.finish_out.new.out) (g.B.Sink.count c.finish_out.new.out) c.finish_out.new.steps)
     c.read.new.into feds.WriteFailed c.pieces.invariant.0 c.in-End.ensures c.in-WriteFailed.ensures
 
 pub returns-in-NoMemory : goal.returns-in-NoMemory
@@ -61,41 +61,41 @@ returns-in-NoMemory g c =
     over_end g.A.Actor.rules c.args.acts.now c.pieces.acts c.pieces.pieces
     (outside (g.S.Source.left c.args.input.now) (g.S.Source.count c.args.input.now) (trace (g.B.Sink.holds c.args.out.now) (g.B.Sink.count c.args.out.now) c.args.steps.now))
     (outside (g.S.Source.left c.pieces.input) (g.S.Source.count c.pieces.input) (trace (g.B.Sink.holds c.pieces.out) (g.B.Sink.count c.pieces.out) c.pieces.steps))
-    (g.S.Source.left c.read.new.self) (g.S.Source.count c.read.new.self) (trace (g.B.Sink.holds c.finish.new.out) (g.B.Sink.count c.finish.new.out) c.finish.new.steps)
+    (g.S.Source.left c.read.new.self) (g.S.Source.count c.read.new.self) (trace (g.B.Sink.holds c.finish_out.new.out) (g.B.Sink.count c.finish_out.new.out) c.finish_out.new.steps)
     c.read.new.into feds.NoMemory c.pieces.invariant.0 c.in-End.ensures c.in-NoMemory.ensures
 
 pub pieces-preserved : goal.pieces-preserved
 pieces-preserved g c = (
-  so_more g.A.Actor.rules c.args.acts.now c.pieces.acts c.feed.new.acts c.pieces.pieces c.feed.new.self
+  so_more g.A.Actor.rules c.args.acts.now c.pieces.acts c.feed_out.new.acts c.pieces.pieces c.feed_out.new.pieces
       (outside (g.S.Source.left c.args.input.now) (g.S.Source.count c.args.input.now) (trace (g.B.Sink.holds c.args.out.now) (g.B.Sink.count c.args.out.now) c.args.steps.now))
       (outside (g.S.Source.left c.pieces.input) (g.S.Source.count c.pieces.input) (trace (g.B.Sink.holds c.pieces.out) (g.B.Sink.count c.pieces.out) c.pieces.steps))
-      (g.S.Source.left c.read.new.self) (g.S.Source.count c.read.new.self) c.in-Bytes.count (trace (g.B.Sink.holds c.feed.new.out) (g.B.Sink.count c.feed.new.out) c.feed.new.steps)
-      c.read.new.into c.front.result.now c.pieces.invariant.0 c.in-Bytes.ensures c.front.ensures c.in-On-feed.ensures.fed,
-  c.in-On-feed.ensures.within,
+      (g.S.Source.left c.read.new.self) (g.S.Source.count c.read.new.self) c.in-Bytes.count (trace (g.B.Sink.holds c.feed_out.new.out) (g.B.Sink.count c.feed_out.new.out) c.feed_out.new.steps)
+      c.read.new.into c.front.result.now c.pieces.invariant.0 c.in-Bytes.ensures c.front.ensures c.in-On-feed_out.ensures.fed,
+  c.in-On-feed_out.ensures.within,
   omega (arith, c.in-Bytes.ensures),
-  c.in-On-feed.ensures.next,
+  c.in-On-feed_out.ensures.next,
 )
 
-pub returns-in-Refused-feed : goal.returns-in-Refused-feed
-returns-in-Refused-feed g c =
-    over_fed g.A.Actor.rules c.args.acts.now c.pieces.acts c.feed.new.acts c.pieces.pieces c.feed.new.self
+pub returns-in-Refused-feed_out : goal.returns-in-Refused-feed_out
+returns-in-Refused-feed_out g c =
+    over_fed g.A.Actor.rules c.args.acts.now c.pieces.acts c.feed_out.new.acts c.pieces.pieces c.feed_out.new.pieces
     (outside (g.S.Source.left c.args.input.now) (g.S.Source.count c.args.input.now) (trace (g.B.Sink.holds c.args.out.now) (g.B.Sink.count c.args.out.now) c.args.steps.now))
     (outside (g.S.Source.left c.pieces.input) (g.S.Source.count c.pieces.input) (trace (g.B.Sink.holds c.pieces.out) (g.B.Sink.count c.pieces.out) c.pieces.steps))
-    (g.S.Source.left c.read.new.self) (g.S.Source.count c.read.new.self) c.in-Bytes.count (trace (g.B.Sink.holds c.feed.new.out) (g.B.Sink.count c.feed.new.out) c.feed.new.steps)
-    c.read.new.into c.front.result.now (feds.Refused c.in-Refused-feed.number c.in-Refused-feed.why) c.pieces.invariant.0 c.in-Bytes.ensures c.front.ensures c.in-Refused-feed.ensures.fed
+    (g.S.Source.left c.read.new.self) (g.S.Source.count c.read.new.self) c.in-Bytes.count (trace (g.B.Sink.holds c.feed_out.new.out) (g.B.Sink.count c.feed_out.new.out) c.feed_out.new.steps)
+    c.read.new.into c.front.result.now (feds.Refused c.in-Refused-feed_out.number c.in-Refused-feed_out.why) c.pieces.invariant.0 c.in-Bytes.ensures c.front.ensures c.in-Refused-feed_out.ensures.fed
 
-pub returns-in-WriteFailed-feed : goal.returns-in-WriteFailed-feed
-returns-in-WriteFailed-feed g c =
-    over_fed g.A.Actor.rules c.args.acts.now c.pieces.acts c.feed.new.acts c.pieces.pieces c.feed.new.self
+pub returns-in-WriteFailed-feed_out : goal.returns-in-WriteFailed-feed_out
+returns-in-WriteFailed-feed_out g c =
+    over_fed g.A.Actor.rules c.args.acts.now c.pieces.acts c.feed_out.new.acts c.pieces.pieces c.feed_out.new.pieces
     (outside (g.S.Source.left c.args.input.now) (g.S.Source.count c.args.input.now) (trace (g.B.Sink.holds c.args.out.now) (g.B.Sink.count c.args.out.now) c.args.steps.now))
     (outside (g.S.Source.left c.pieces.input) (g.S.Source.count c.pieces.input) (trace (g.B.Sink.holds c.pieces.out) (g.B.Sink.count c.pieces.out) c.pieces.steps))
-    (g.S.Source.left c.read.new.self) (g.S.Source.count c.read.new.self) c.in-Bytes.count (trace (g.B.Sink.holds c.feed.new.out) (g.B.Sink.count c.feed.new.out) c.feed.new.steps)
-    c.read.new.into c.front.result.now feds.WriteFailed c.pieces.invariant.0 c.in-Bytes.ensures c.front.ensures c.in-WriteFailed-feed.ensures.fed
+    (g.S.Source.left c.read.new.self) (g.S.Source.count c.read.new.self) c.in-Bytes.count (trace (g.B.Sink.holds c.feed_out.new.out) (g.B.Sink.count c.feed_out.new.out) c.feed_out.new.steps)
+    c.read.new.into c.front.result.now feds.WriteFailed c.pieces.invariant.0 c.in-Bytes.ensures c.front.ensures c.in-WriteFailed-feed_out.ensures.fed
 
-pub returns-in-NoMemory-feed : goal.returns-in-NoMemory-feed
-returns-in-NoMemory-feed g c =
-    over_fed g.A.Actor.rules c.args.acts.now c.pieces.acts c.feed.new.acts c.pieces.pieces c.feed.new.self
+pub returns-in-NoMemory-feed_out : goal.returns-in-NoMemory-feed_out
+returns-in-NoMemory-feed_out g c =
+    over_fed g.A.Actor.rules c.args.acts.now c.pieces.acts c.feed_out.new.acts c.pieces.pieces c.feed_out.new.pieces
     (outside (g.S.Source.left c.args.input.now) (g.S.Source.count c.args.input.now) (trace (g.B.Sink.holds c.args.out.now) (g.B.Sink.count c.args.out.now) c.args.steps.now))
     (outside (g.S.Source.left c.pieces.input) (g.S.Source.count c.pieces.input) (trace (g.B.Sink.holds c.pieces.out) (g.B.Sink.count c.pieces.out) c.pieces.steps))
-    (g.S.Source.left c.read.new.self) (g.S.Source.count c.read.new.self) c.in-Bytes.count (trace (g.B.Sink.holds c.feed.new.out) (g.B.Sink.count c.feed.new.out) c.feed.new.steps)
-    c.read.new.into c.front.result.now feds.NoMemory c.pieces.invariant.0 c.in-Bytes.ensures c.front.ensures c.in-NoMemory-feed.ensures.fed
+    (g.S.Source.left c.read.new.self) (g.S.Source.count c.read.new.self) c.in-Bytes.count (trace (g.B.Sink.holds c.feed_out.new.out) (g.B.Sink.count c.feed_out.new.out) c.feed_out.new.steps)
+    c.read.new.into c.front.result.now feds.NoMemory c.pieces.invariant.0 c.in-Bytes.ensures c.front.ensures c.in-NoMemory-feed_out.ensures.fed
