@@ -13,7 +13,7 @@ use Rattle.ft_base.specs.declared.views.Style.TheVariants as styles
 use Rattle.fault_script.specs.Words.{is_comment, is_script_name, is_operation, only}
 use Rattle.fault_script.specs.Numbers.{number, capped, host_number, host_numbers, from_one, positive_number}
 use Rattle.fault_script.specs.Arguments.{octets_of}
-use Rattle.fault_script.specs.Forms.{is_unbuilt, change_of, verb, only_host, hosts_of, hosts_line, kind_of, style_of, built_group, group_of, group_line, client_line, call_line, stop_named, stop_of, deliver_of, deliver_line, tick_of, tick_line, show_line, inject_of, inject_line, change_at, change_line, crash_of, restart_of, line_of_verb, line_of, as_some, parse_words}
+use Rattle.fault_script.specs.Forms.{is_unbuilt, change_of, verb, only_host, hosts_of, hosts_line, kind_of, style_of, built_group, group_of, group_line, client_line, call_line, stop_named, stop_of, deliver_of, deliver_line, tick_of, tick_line, show_line, asked_of, locations_line, id_line, ref_line, member_at, member_line, inject_of, inject_line, change_at, change_line, crash_of, restart_of, line_of_verb, line_of, as_some, parse_words}
 use Rattle.fault_script.specs.Grammar.{Spells, IsNumber, kind_word, stop_words, change_word}
 use Rattle.fault_script.specs.declared.lines.KindWord.{KindWord}
 use Rattle.fault_script.specs.declared.lines.KindWord.TheVariants as kinds
@@ -175,6 +175,39 @@ show_spelled (name ∷ []) line e =
     subst (λ (l : Line). Spells (codes "show" ∷ name ∷ []) l) same (refl, named.0)
 show_spelled (name ∷ next ∷ rest) line e = cc
 
+-- what is asked of a group
+asked_spelled : (first : List ℕ) (asked : List ℕ → Line) → ((name : List ℕ) → is_script_name name ≡ true → Spells (first ∷ name ∷ []) (asked name))
+    → (rest : List (List ℕ)) (line : Line) → asked_of asked (only rest) ≡ Ok line → Spells (first ∷ rest) line
+asked_spelled first asked spells [] line e = cc
+asked_spelled first asked spells (name ∷ []) line e =
+    let named = guarded (is_script_name name) (Ok (asked name)) Syntax line e in
+    let same : asked name ≡ line = cc in
+    subst (λ (l : Line). Spells (first ∷ name ∷ []) l) same (spells name named.0)
+asked_spelled first asked spells (name ∷ next ∷ rest) line e = cc
+
+locations_spelled : (rest : List (List ℕ)) (line : Line) → locations_line rest ≡ Ok line → Spells (codes "locations" ∷ rest) line
+locations_spelled = asked_spelled (codes "locations") (λ name. lines.Locations name) (λ name named. (refl, named))
+
+id_spelled : (rest : List (List ℕ)) (line : Line) → id_line rest ≡ Ok line → Spells (codes "id" ∷ rest) line
+id_spelled = asked_spelled (codes "id") (λ name. lines.Id name) (λ name named. (refl, named))
+
+ref_spelled : (rest : List (List ℕ)) (line : Line) → ref_line rest ≡ Ok line → Spells (codes "ref" ∷ rest) line
+ref_spelled = asked_spelled (codes "ref") (λ name. lines.Ref name) (λ name named. (refl, named))
+
+member_found : (group : List ℕ) (rest : List (List ℕ)) (host : Option ℕ) (line : Line) → only_host rest ≡ host
+    → member_at group host ≡ Ok line → Spells (codes "member" ∷ group ∷ rest) line
+member_found group rest None line a e = cc
+member_found group rest (Some host) line a e =
+    let named = guarded (is_script_name group) (Ok (lines.MemberRef group host)) Syntax line e in
+    let same : lines.MemberRef group host ≡ line = cc in
+    let one = only_host_some rest host a in
+    subst (λ (l : Line). Spells (codes "member" ∷ group ∷ rest) l) same
+    (one.0, ap (λ (ws : List (List ℕ)). codes "member" ∷ group ∷ ws) one.1, named.0, one.2)
+
+member_spelled : (rest : List (List ℕ)) (line : Line) → member_line rest ≡ Ok line → Spells (codes "member" ∷ rest) line
+member_spelled [] line e = cc
+member_spelled (group ∷ rest) line e = member_found group rest (only_host rest) line refl e
+
 -- call
 call_spelled : (rest : List (List ℕ)) (line : Line) → call_line rest ≡ Ok line → Spells (codes "call" ∷ rest) line
 call_spelled [] line e = cc
@@ -295,6 +328,10 @@ spelling verbs.Call = codes "call"
 spelling verbs.Deliver = codes "deliver"
 spelling verbs.Tick = codes "tick"
 spelling verbs.Show = codes "show"
+spelling verbs.Locations = codes "locations"
+spelling verbs.Id = codes "id"
+spelling verbs.Ref = codes "ref"
+spelling verbs.MemberRef = codes "member"
 spelling verbs.Inject = codes "inject"
 spelling (verbs.Change change) = change_word change
 spelling verbs.Crash = codes "crash"
@@ -325,10 +362,14 @@ verb_spelled first found =
     (text_case (λ w. w) spelling (bytes_eq first (codes "deliver")) first (codes "deliver") verbs.Deliver found _ refl refl
     (text_case (λ w. w) spelling (bytes_eq first (codes "tick")) first (codes "tick") verbs.Tick found _ refl refl
     (text_case (λ w. w) spelling (bytes_eq first (codes "show")) first (codes "show") verbs.Show found _ refl refl
+    (text_case (λ w. w) spelling (bytes_eq first (codes "locations")) first (codes "locations") verbs.Locations found _ refl refl
+    (text_case (λ w. w) spelling (bytes_eq first (codes "id")) first (codes "id") verbs.Id found _ refl refl
+    (text_case (λ w. w) spelling (bytes_eq first (codes "ref")) first (codes "ref") verbs.Ref found _ refl refl
+    (text_case (λ w. w) spelling (bytes_eq first (codes "member")) first (codes "member") verbs.MemberRef found _ refl refl
     (text_case (λ w. w) spelling (bytes_eq first (codes "inject")) first (codes "inject") verbs.Inject found _ refl refl
     (text_case (λ w. w) spelling (bytes_eq first (codes "crash")) first (codes "crash") verbs.Crash found _ refl refl
     (text_case (λ w. w) spelling (bytes_eq first (codes "restart")) first (codes "restart") verbs.Restart found _ refl refl
-    (change_verb first (change_of first) found refl))))))))))
+    (change_verb first (change_of first) found refl))))))))))))))
 
 verb_line_spelled : (found : Option Verb) (first : List ℕ) (rest : List (List ℕ)) (line : Line) → verb first ≡ found → line_of_verb found rest ≡ Ok line → Spells (first ∷ rest) line
 unfolding spelling
@@ -347,6 +388,14 @@ verb_line_spelled (Some verbs.Tick) first rest line v e =
     subst (λ (w : List ℕ). Spells (w ∷ rest) line) (sym (verb_spelled first verbs.Tick v)) (tick_spelled rest line e)
 verb_line_spelled (Some verbs.Show) first rest line v e =
     subst (λ (w : List ℕ). Spells (w ∷ rest) line) (sym (verb_spelled first verbs.Show v)) (show_spelled rest line e)
+verb_line_spelled (Some verbs.Locations) first rest line v e =
+    subst (λ (w : List ℕ). Spells (w ∷ rest) line) (sym (verb_spelled first verbs.Locations v)) (locations_spelled rest line e)
+verb_line_spelled (Some verbs.Id) first rest line v e =
+    subst (λ (w : List ℕ). Spells (w ∷ rest) line) (sym (verb_spelled first verbs.Id v)) (id_spelled rest line e)
+verb_line_spelled (Some verbs.Ref) first rest line v e =
+    subst (λ (w : List ℕ). Spells (w ∷ rest) line) (sym (verb_spelled first verbs.Ref v)) (ref_spelled rest line e)
+verb_line_spelled (Some verbs.MemberRef) first rest line v e =
+    subst (λ (w : List ℕ). Spells (w ∷ rest) line) (sym (verb_spelled first verbs.MemberRef v)) (member_spelled rest line e)
 verb_line_spelled (Some verbs.Inject) first rest line v e =
     subst (λ (w : List ℕ). Spells (w ∷ rest) line) (sym (verb_spelled first verbs.Inject v)) (inject_spelled rest line e)
 verb_line_spelled (Some (verbs.Change change)) first rest line v e =

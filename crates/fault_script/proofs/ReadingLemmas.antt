@@ -10,7 +10,7 @@ use Rattle.ft_base.specs.declared.views.Style.TheVariants as styles
 use Rattle.fault_script.specs.Words.{words, is_script_name, is_operation}
 use Rattle.fault_script.specs.Numbers.{number, capped, host_number, host_numbers, from_one, positive_number}
 use Rattle.fault_script.specs.Arguments.{octets_of}
-use Rattle.fault_script.specs.Forms.{hosts_of, kind_of, group_of, group_line, call_line, stop_of, deliver_of, tick_of, tick_line, inject_of, inject_line, change_at, change_line, crash_of, restart_of, as_some, parse_words, parse}
+use Rattle.fault_script.specs.Forms.{hosts_of, kind_of, group_of, group_line, call_line, stop_of, deliver_of, tick_of, tick_line, member_at, member_line, inject_of, inject_line, change_at, change_line, crash_of, restart_of, as_some, parse_words, parse}
 use Rattle.fault_script.specs.Grammar.{Spells, IsNumber, kind_word, stop_words, change_word}
 use Rattle.fault_script.specs.declared.lines.KindWord.{KindWord}
 use Rattle.fault_script.specs.declared.lines.KindWord.TheVariants as kinds
@@ -60,6 +60,10 @@ change_read : (change : MemberChange) (group digits : List ℕ) (host : ℕ) →
     → change_line change (group ∷ digits ∷ []) ≡ Ok (lines.Change change group host)
 change_read change group digits host named is_host = ap (change_at change group) (host_read digits host is_host) ∙ rw named refl
 
+member_read : (group digits : List ℕ) (host : ℕ) → is_script_name group ≡ true → IsNumber digits host
+    → member_line (group ∷ digits ∷ []) ≡ Ok (lines.MemberRef group host)
+member_read group digits host named is_host = ap (member_at group) (host_read digits host is_host) ∙ rw named refl
+
 change_begins : (change : MemberChange) (rest : List (List ℕ)) → parse_words (change_word change ∷ rest) ≡ as_some (change_line change rest)
 change_begins changes.Add rest = refl
 change_begins changes.Remove rest = refl
@@ -101,6 +105,15 @@ spelled_is_read ws (lines.Tick count) s =
     subst (λ (w : List (List ℕ)). parse_words w ≡ Ok (Some (lines.Tick count))) (sym s.1) (ap as_some (tick_read s.0 count s.2 s.3))
 spelled_is_read ws (lines.Show name) s =
     subst (λ (w : List (List ℕ)). parse_words w ≡ Ok (Some (lines.Show name))) (sym s.0) (rw s.1 refl)
+spelled_is_read ws (lines.Locations name) s =
+    subst (λ (w : List (List ℕ)). parse_words w ≡ Ok (Some (lines.Locations name))) (sym s.0) (rw s.1 refl)
+spelled_is_read ws (lines.Id name) s =
+    subst (λ (w : List (List ℕ)). parse_words w ≡ Ok (Some (lines.Id name))) (sym s.0) (rw s.1 refl)
+spelled_is_read ws (lines.Ref name) s =
+    subst (λ (w : List (List ℕ)). parse_words w ≡ Ok (Some (lines.Ref name))) (sym s.0) (rw s.1 refl)
+spelled_is_read ws (lines.MemberRef group host) s =
+    subst (λ (w : List (List ℕ)). parse_words w ≡ Ok (Some (lines.MemberRef group host))) (sym s.1)
+    (ap as_some (member_read group s.0 host s.2 s.3))
 spelled_is_read ws (lines.Inject host bytes) s =
     subst (λ (w : List (List ℕ)). parse_words w ≡ Ok (Some (lines.Inject host bytes))) (sym s.2)
     (ap as_some (inject_read s.0 s.1 bytes host s.3 s.4))

@@ -25,8 +25,7 @@ use Rattle.fault_script.specs.declared.verbs.Verb.TheVariants as verbs
 -- the first words of lines that are not built yet
 abbrev pub unbuilt : List (List ℕ)
 unbuilt =
-    codes "create" ∷ codes "set" ∷ codes "unset" ∷ codes "get" ∷ codes "grow" ∷ codes "locations"
-    ∷ codes "id" ∷ codes "ref" ∷ codes "member" ∷ codes "delete" ∷ codes "bind" ∷ codes "timeout"
+    codes "create" ∷ codes "set" ∷ codes "unset" ∷ codes "get" ∷ codes "grow" ∷ codes "delete" ∷ codes "bind" ∷ codes "timeout"
     ∷ codes "poll" ∷ codes "sweep" ∷ codes "subscribe" ∷ codes "unsubscribe" ∷ codes "pull"
     ∷ codes "checkpoint" ∷ codes "update" ∷ codes "logfail" ∷ []
 
@@ -53,10 +52,14 @@ verb first =
     else (if bytes_eq first (codes "deliver") then Some verbs.Deliver
     else (if bytes_eq first (codes "tick") then Some verbs.Tick
     else (if bytes_eq first (codes "show") then Some verbs.Show
+    else (if bytes_eq first (codes "locations") then Some verbs.Locations
+    else (if bytes_eq first (codes "id") then Some verbs.Id
+    else (if bytes_eq first (codes "ref") then Some verbs.Ref
+    else (if bytes_eq first (codes "member") then Some verbs.MemberRef
     else (if bytes_eq first (codes "inject") then Some verbs.Inject
     else (if bytes_eq first (codes "crash") then Some verbs.Crash
     else (if bytes_eq first (codes "restart") then Some verbs.Restart
-    else option_map (λ change. verbs.Change change) (change_of first))))))))))
+    else option_map (λ change. verbs.Change change) (change_of first))))))))))))))
 
 -- the one host that words name by its number
 abbrev pub only_host : List (List ℕ) → Option ℕ
@@ -166,6 +169,33 @@ show_of (Some name) = if is_script_name name then Ok (lines.Show name) else Err 
 abbrev pub show_line : List (List ℕ) → Result Line LineFault
 show_line rest = show_of (only rest)
 
+-- what is asked of a group, by its name
+abbrev pub asked_of : (List ℕ → Line) → Option (List ℕ) → Result Line LineFault
+asked_of asked None = Err Syntax
+asked_of asked (Some name) = if is_script_name name then Ok (asked name) else Err Syntax
+
+-- `locations G`
+abbrev pub locations_line : List (List ℕ) → Result Line LineFault
+locations_line rest = asked_of (λ name. lines.Locations name) (only rest)
+
+-- `id G`
+abbrev pub id_line : List (List ℕ) → Result Line LineFault
+id_line rest = asked_of (λ name. lines.Id name) (only rest)
+
+-- `ref G`
+abbrev pub ref_line : List (List ℕ) → Result Line LineFault
+ref_line rest = asked_of (λ name. lines.Ref name) (only rest)
+
+-- a member by its group's name and its host's number
+abbrev pub member_at : List ℕ → Option ℕ → Result Line LineFault
+member_at group None = Err Syntax
+member_at group (Some host) = if is_script_name group then Ok (lines.MemberRef group host) else Err Syntax
+
+-- `member G H`
+abbrev pub member_line : List (List ℕ) → Result Line LineFault
+member_line [] = Err Syntax
+member_line (group ∷ rest) = member_at group (only_host rest)
+
 -- the host and the octets of a link
 abbrev pub inject_of : Option ℕ → Option (List ℕ) → Result Line LineFault
 inject_of None bytes = Err Syntax
@@ -215,6 +245,10 @@ line_of_verb (Some verbs.Call) rest = call_line rest
 line_of_verb (Some verbs.Deliver) rest = deliver_line rest
 line_of_verb (Some verbs.Tick) rest = tick_line rest
 line_of_verb (Some verbs.Show) rest = show_line rest
+line_of_verb (Some verbs.Locations) rest = locations_line rest
+line_of_verb (Some verbs.Id) rest = id_line rest
+line_of_verb (Some verbs.Ref) rest = ref_line rest
+line_of_verb (Some verbs.MemberRef) rest = member_line rest
 line_of_verb (Some verbs.Inject) rest = inject_line rest
 line_of_verb (Some (verbs.Change change)) rest = change_line change rest
 line_of_verb (Some verbs.Crash) rest = crash_line rest

@@ -12,7 +12,7 @@ use Rattle.fault_script.specs.declared.lines.KindWord.TheVariants.{Account, Stor
 use Rattle.fault_script.specs.declared.lines.MemberChange.{MemberChange}
 use Rattle.fault_script.specs.declared.lines.MemberChange.TheVariants.{Add, Remove, Primary, Report}
 use Rattle.fault_script.specs.declared.lines.Line.{Line}
-use Rattle.fault_script.specs.declared.lines.Line.TheVariants.{Hosts, Group, Client, Call, Deliver, Tick, Show, Inject, Change, Crash, Restart}
+use Rattle.fault_script.specs.declared.lines.Line.TheVariants.{Hosts, Group, Client, Call, Deliver, Tick, Show, Locations, Id, Ref, MemberRef, Inject, Change, Crash, Restart}
 
 -- a word is a number, which no more than 64 bits keep
 abbrev pub IsNumber : List ℕ → ℕ → Type 0
@@ -53,6 +53,11 @@ Spells words (Deliver message stop) =
 Spells words (Tick count) =
     (digits : List ℕ) × (words ≡ codes "tick" ∷ digits ∷ []) × (number digits ≡ Some count) × (count < 2 ^ 32)
 Spells words (Show name) = (words ≡ codes "show" ∷ name ∷ []) × (is_script_name name ≡ true)
+Spells words (Locations name) = (words ≡ codes "locations" ∷ name ∷ []) × (is_script_name name ≡ true)
+Spells words (Id name) = (words ≡ codes "id" ∷ name ∷ []) × (is_script_name name ≡ true)
+Spells words (Ref name) = (words ≡ codes "ref" ∷ name ∷ []) × (is_script_name name ≡ true)
+Spells words (MemberRef group host) =
+    (digits : List ℕ) × (words ≡ codes "member" ∷ group ∷ digits ∷ []) × (is_script_name group ≡ true) × IsNumber digits host
 Spells words (Inject host bytes) =
     (digits : List ℕ) × (octets : List ℕ) × (words ≡ codes "inject" ∷ digits ∷ octets ∷ [])
     × IsNumber digits host × (octets_of octets ≡ Some bytes)

@@ -3,7 +3,7 @@ ghost use Rattle.fault_script.specs.Words.{texts, only, is_script_name, is_opera
 ghost use Rattle.fault_script.specs.Numbers.{host_numbers};
 ghost use Rattle.fault_script.specs.Faults.{IsAnswer};
 ghost use Rattle.fault_script.specs.Arguments.{IsFound};
-ghost use Rattle.fault_script.specs.Forms.{only_host, hosts_line, kind_of, style_of, built_group, group_of, group_line, client_line, call_line, stop_named, stop_of, deliver_line, tick_line, show_line, inject_line, change_line, crash_line, restart_line};
+ghost use Rattle.fault_script.specs.Forms.{only_host, hosts_line, kind_of, style_of, built_group, group_of, group_line, client_line, call_line, stop_named, stop_of, deliver_line, tick_line, show_line, locations_line, id_line, ref_line, member_line, inject_line, change_line, crash_line, restart_line};
 
 use crate::arguments::read_octets;
 use crate::lines::{HostNumbers, KindWord, Line, LineFault, MemberChange, Words};
@@ -49,6 +49,45 @@ pub(crate) fn read_show(alloc: Global, words: &[&[u8]]) -> Result<Line, LineFaul
     };
     match read_name(alloc, word) {
         Ok(name) => Ok(Line::Show(name)),
+        Err(fault) => Err(fault),
+    }
+}
+
+/// `locations G`, from the words behind the first.
+pub(crate) fn read_locations(alloc: Global, words: &[&[u8]]) -> Result<Line, LineFault>
+    ensures { IsAnswer result (locations_line (texts words.now)) }
+{
+    let Some(word) = only(words) else {
+        return Err(LineFault::Syntax);
+    };
+    match read_name(alloc, word) {
+        Ok(name) => Ok(Line::Locations(name)),
+        Err(fault) => Err(fault),
+    }
+}
+
+/// `id G`, from the words behind the first.
+pub(crate) fn read_id(alloc: Global, words: &[&[u8]]) -> Result<Line, LineFault>
+    ensures { IsAnswer result (id_line (texts words.now)) }
+{
+    let Some(word) = only(words) else {
+        return Err(LineFault::Syntax);
+    };
+    match read_name(alloc, word) {
+        Ok(name) => Ok(Line::Id(name)),
+        Err(fault) => Err(fault),
+    }
+}
+
+/// `ref G`, from the words behind the first.
+pub(crate) fn read_ref(alloc: Global, words: &[&[u8]]) -> Result<Line, LineFault>
+    ensures { IsAnswer result (ref_line (texts words.now)) }
+{
+    let Some(word) = only(words) else {
+        return Err(LineFault::Syntax);
+    };
+    match read_name(alloc, word) {
+        Ok(name) => Ok(Line::Ref(name)),
         Err(fault) => Err(fault),
     }
 }
@@ -331,6 +370,22 @@ pub(crate) fn read_change(
             group,
             host,
         }),
+        Err(fault) => Err(fault),
+    }
+}
+
+/// `member G H`, from the words behind the first.
+pub(crate) fn read_member(alloc: Global, words: &[&[u8]]) -> Result<Line, LineFault>
+    ensures { IsAnswer result (member_line (texts words.now)) }
+{
+    let Some((group, rest)) = split_first(words) else {
+        return Err(LineFault::Syntax);
+    };
+    let Some(host) = read_only_host(rest) else {
+        return Err(LineFault::Syntax);
+    };
+    match read_name(alloc, group) {
+        Ok(group) => Ok(Line::MemberRef { group, host }),
         Err(fault) => Err(fault),
     }
 }

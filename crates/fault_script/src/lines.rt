@@ -81,6 +81,17 @@ pub enum Line {
     Tick(u32),
     /// `show G`: prints the group.
     Show(Name),
+    /// `locations G`: prints the hosts of the group's members.
+    Locations(Name),
+    /// `id G`: prints the group's number.
+    Id(Name),
+    /// `ref G`: prints the group's newest reference.
+    Ref(Name),
+    /// `member G H`: prints the plain reference of the member on a host.
+    MemberRef {
+        group: Name,
+        host: u64,
+    },
     /// `inject H HEX`: the bytes of a whole link, as a client has sent them to a host.
     Inject {
         host: u64,

@@ -6,8 +6,8 @@ ghost use Rattle.fault_script.specs.Grammar.{Spells};
 ghost use Rattle.fault_script.specs.declared.lines.Line.{Line};
 
 use crate::forms::{
-    read_call, read_change, read_client, read_crash, read_deliver, read_group, read_hosts,
-    read_inject, read_restart, read_show, read_tick,
+    read_call, read_change, read_client, read_crash, read_deliver, read_group, read_hosts, read_id,
+    read_inject, read_locations, read_member, read_ref, read_restart, read_show, read_tick,
 };
 use crate::lines::{LimitName, Line, LineFault};
 use crate::splitting::{is_comment, split_first, split_words};
@@ -32,6 +32,10 @@ fn read_form(alloc: Global, first: &[u8], rest: &[&[u8]]) -> Result<Line, LineFa
         Some(Verb::Deliver) => read_deliver(rest),
         Some(Verb::Tick) => read_tick(rest),
         Some(Verb::Show) => read_show(alloc, rest),
+        Some(Verb::Locations) => read_locations(alloc, rest),
+        Some(Verb::Id) => read_id(alloc, rest),
+        Some(Verb::Ref) => read_ref(alloc, rest),
+        Some(Verb::MemberRef) => read_member(alloc, rest),
         Some(Verb::Inject) => read_inject(alloc, rest),
         Some(Verb::Change(change)) => read_change(alloc, change, rest),
         Some(Verb::Crash) => read_crash(rest),

@@ -50,6 +50,10 @@ fn form(line: &Line) -> &'static [u8] {
         Line::Deliver { number: _, stop } => stop_form(*stop),
         Line::Tick(_) => b"tick",
         Line::Show(_) => b"show",
+        Line::Locations(_) => b"locations",
+        Line::Id(_) => b"id",
+        Line::Ref(_) => b"ref",
+        Line::MemberRef { group: _, host: _ } => b"member",
         Line::Inject { host: _, bytes: _ } => b"inject",
         Line::Change {
             change,
@@ -72,7 +76,7 @@ fn shown(alloc: Global, line: &[u8]) -> &'static [u8] {
 }
 
 // How lines read, with a bar between each two.
-const LINES: [(&str, &str); 21] = [
+const LINES: [(&str, &str); 25] = [
     ("nothing", "| \t\r|# frob|\r #frob"),
     ("hosts", "hosts 7|hosts\t0007\r|hosts 99999999999999999999"),
     (
@@ -97,6 +101,10 @@ const LINES: [(&str, &str); 21] = [
     ("execute", "deliver 1 crash execute"),
     ("tick", "tick 0|tick 999|tick 4294967295"),
     ("show", "show bank"),
+    ("locations", "locations bank"),
+    ("id", "id\tg-2.x_Z "),
+    ("ref", "ref g"),
+    ("member", "member g 0|member bank 99999999999999999999"),
     (
         "inject",
         "inject 0 -|inject 0 47494f50|inject 63 47494F50|inject 00000000000000000000 aF",
@@ -124,7 +132,8 @@ const LINES: [(&str, &str); 21] = [
             "call c0 bank|call 0c bank deposit 700|call c0 - deposit 700|deliver 0|",
             "deliver 000000000000000000001|deliver 0 crash append|deliver 1 crash|deliver 1 crash frob|",
             "deliver 1 crash append 2|deliver 1 append|deliver 1 frob execute|deliver x crash append|",
-            "tick 4294967296|tick|show|frob|manage 0 x|beat c g|plain 0 00|",
+            "tick 4294967296|tick|show|locations|locations g g|id 1|Id g|ref|ref g 0|member g|member 0 g|",
+            "member g 0 0|member g -1|member g 000000000000000000000|frob|manage 0 x|beat c g|plain 0 00|",
             "inject 000000000000000000000 00|inject 0 4|inject 0 47494f5|inject 0 4g|inject 0 0x00|",
             "inject 0 --|inject x 00|inject -1 00|inject 0|inject|inject 0 00 00|Inject 0 00|",
             "add|add g|add g x|add 0 g|add _g 0|remove g 0 1|primary g -1|report g|Add g 0|crash|crash x|",
@@ -208,7 +217,7 @@ fn lines(rt: HostRuntime) -> Result<(), Fail> {
 }
 
 // The numbers in a line, and its octets.
-const NUMBERS: [(&str, &[u64], &[u8]); 14] = [
+const NUMBERS: [(&str, &[u64], &[u8]); 16] = [
     ("hosts 0064", &[64], b""),
     ("hosts 18446744073709551615", &[u64::MAX], b""),
     ("hosts 18446744073709551616", &[u64::MAX], b""),
@@ -225,6 +234,8 @@ const NUMBERS: [(&str, &[u64], &[u8]); 14] = [
     ("inject 18446744073709551615 00fF", &[u64::MAX], b"\0\xff"),
     ("inject 18446744073709551616 0102", &[u64::MAX], b"\x01\x02"),
     ("primary bank 0005", &[5], b""),
+    ("member bank 0005", &[5], b""),
+    ("member g 18446744073709551616", &[u64::MAX], b""),
     ("crash 18446744073709551616", &[u64::MAX], b""),
     ("restart 000", &[0], b""),
 ];
@@ -257,6 +268,7 @@ fn has(alloc: Global, text: &str, wanted: &[u64], octets: &[u8]) -> bool {
                 },
             ),
         ) => is_one(wanted, host),
+        Ok(Some(Line::MemberRef { group: _, host })) => is_one(wanted, host),
         Ok(Some(Line::Crash(host))) => is_one(wanted, host),
         Ok(Some(Line::Restart(host))) => is_one(wanted, host),
         _ => false,

@@ -15,6 +15,10 @@ pub(crate) enum Verb {
     Deliver,
     Tick,
     Show,
+    Locations,
+    Id,
+    Ref,
+    MemberRef,
     Inject,
     Change(MemberChange),
     Crash,
@@ -55,6 +59,14 @@ pub(crate) fn find_verb(first: &[u8]) -> Option<Verb>
         Some(Verb::Tick)
     } else if first == b"show".as_slice() {
         Some(Verb::Show)
+    } else if first == b"locations".as_slice() {
+        Some(Verb::Locations)
+    } else if first == b"id".as_slice() {
+        Some(Verb::Id)
+    } else if first == b"ref".as_slice() {
+        Some(Verb::Ref)
+    } else if first == b"member".as_slice() {
+        Some(Verb::MemberRef)
     } else if first == b"inject".as_slice() {
         Some(Verb::Inject)
     } else if first == b"crash".as_slice() {
@@ -66,16 +78,12 @@ pub(crate) fn find_verb(first: &[u8]) -> Option<Verb>
     }
 }
 
-static UNBUILT: [&[u8]; 20] = [
+static UNBUILT: [&[u8]; 16] = [
     b"create",
     b"set",
     b"unset",
     b"get",
     b"grow",
-    b"locations",
-    b"id",
-    b"ref",
-    b"member",
     b"delete",
     b"bind",
     b"timeout",

@@ -219,6 +219,14 @@ report_text (lines.Show group version entries mark time) =
     line (codes "show" ∷ group ∷ codes "view" ∷ decimal version.0 ∷ codes "entries" ∷ decimal entries ∷ codes "mark" ∷ decimal mark ∷ codes "time" ∷ decimal time.0 ∷ [])
 report_text (lines.Member host role standing) =
     line (codes "member" ∷ decimal host.0 ∷ role_text role ∷ standing_text standing ∷ [])
+report_text (lines.Locations group members) =
+    line (codes "locations" ∷ group ∷ hosts_text members ∷ [])
+report_text (lines.Id group id) =
+    line (codes "id" ∷ group ∷ decimal id.0 ∷ [])
+report_text (lines.Ref group text) =
+    line (codes "ref" ∷ group ∷ text ∷ [])
+report_text (lines.MemberRef group host text) =
+    line (codes "member-ref" ∷ group ∷ decimal host.0 ∷ text ∷ [])
 report_text (lines.NoGroup host) =
     line (codes "at" ∷ decimal host.0 ∷ codes "- nogroup" ∷ [])
 report_text (lines.Bytes bytes) =

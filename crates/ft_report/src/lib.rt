@@ -1,6 +1,7 @@
 //! The lines that `ftc run` writes: what each tells, and its bytes.
 #![tactic(auto)]
 
+mod histories;
 mod outcomes;
 mod parts;
 mod rendering;
@@ -8,7 +9,7 @@ mod reports;
 mod words;
 
 pub use outcomes::{ReportOutcome, Worth, worth_of};
-pub use rendering::{render_all, write_line};
+pub use rendering::write_line;
 pub use reports::{CallEnd, ReportLine, ReportLines, Role, Standing};
 
 #[cfg(test)]

@@ -1,12 +1,12 @@
 //! The parts of a line: words and phrases, each as its text.
-ghost use Rattle.std.specs.Prelude.{◌≡◌, ◌∷◌, [], IfOk};
-ghost use Rattle.ft_report.specs.Words.{phrase_text};
+ghost use Rattle.std.specs.Prelude.{◌≡◌, ◌++◌, ◌∷◌, [], IfOk, OnOk};
+ghost use Rattle.ft_report.specs.Words.{octets_text, phrase_text};
 ghost use Rattle.ft_report.specs.Report.{completed_text, decision_text, end_text, fault_text, flag_text, ignored_text, kind_text, outcome_text, own_fault, refusal_text, role_text, standing_text, why_text, with_number, with_numbers, with_version, worded_numbers, worth_text};
 
 use crate::outcomes::{ReportOutcome, Worth};
 use crate::reports::{CallEnd, Role, Standing};
 use crate::words::Word::{Fixed, Made, Number, Signed, Text};
-use crate::words::{octets, phrase};
+use crate::words::{octets, phrase, push_phrase};
 use ft_base::{Bytes, Decision, HostNo, Ignored, Name, NoMemory, Version};
 use giop_messages::Why;
 use group_model::ManageFault;
@@ -60,25 +60,33 @@ pub fn why_bytes(why: Why) -> &'static [u8]
     }
 }
 
-fn worth_bytes(alloc: Global, worth: &Worth) -> Result<Bytes, NoMemory>
-    ensures { IfOk result (λ bytes. bytes ≡ worth_text worth.now) }
+fn push_octets(text: &mut Vec<u8>, alloc: Global, bytes: &Bytes) -> Result<(), NoMemory>
+    ensures { OnOk result (text.new.items ≡ text.old.items ++ octets_text bytes.now) }
+{
+    let octets = octets(alloc, bytes)?;
+    text.extend_from_slice(octets.bytes())?;
+    Ok(())
+}
+
+fn push_worth(text: &mut Vec<u8>, alloc: Global, worth: &Worth) -> Result<(), NoMemory>
+    ensures { OnOk result (text.new.items ≡ text.old.items ++ worth_text worth.now) }
 {
     match worth {
-        Worth::Void => Bytes::of(alloc, b"void"),
-        Worth::Number(number) => phrase(alloc, &[Signed(*number)]),
-        Worth::Flag(flag) => Bytes::of(alloc, flag_bytes(*flag)),
-        Worth::Octets(bytes) => octets(alloc, bytes),
+        Worth::Void => push_phrase(text, &[Fixed(b"void")]),
+        Worth::Number(number) => push_phrase(text, &[Signed(*number)]),
+        Worth::Flag(flag) => push_phrase(text, &[Fixed(flag_bytes(*flag))]),
+        Worth::Octets(bytes) => push_octets(text, alloc, bytes),
     }
 }
 
-fn kind_bytes(alloc: Global, kind: &SysKind) -> Result<Bytes, NoMemory>
-    ensures { IfOk result (λ bytes. bytes ≡ kind_text kind.now) }
+fn push_kind(text: &mut Vec<u8>, alloc: Global, kind: &SysKind) -> Result<(), NoMemory>
+    ensures { OnOk result (text.new.items ≡ text.old.items ++ kind_text kind.now) }
 {
     if let SysKind::Unknown(id) = kind {
-        return octets(alloc, id);
+        return push_octets(text, alloc, id);
     }
     match kind.name() {
-        Some(name) => Bytes::of(alloc, name),
+        Some(name) => push_phrase(text, &[Text(name)]),
         None => unreachable!(),
     }
 }
@@ -102,36 +110,65 @@ pub fn with_version(
     )
 }
 
-fn fault_bytes(alloc: Global, fault: &SysFault) -> Result<Bytes, NoMemory>
-    ensures { IfOk result (λ bytes. bytes ≡ fault_text fault.now) }
+fn push_fault(text: &mut Vec<u8>, alloc: Global, fault: &SysFault) -> Result<(), NoMemory>
+    ensures { OnOk result (text.new.items ≡ text.old.items ++ fault_text fault.now) }
 {
-    let kind = kind_bytes(alloc, &fault.kind)?;
-    phrase(
-        alloc,
+    push_phrase(text, &[Fixed(b"system")])?;
+    text.push(b' ')?;
+    push_kind(text, alloc, &fault.kind)?;
+    text.push(b' ')?;
+    push_phrase(
+        text,
         &[
-            Fixed(b"system"),
-            Made(kind.bytes()),
             Number(u64::from(fault.minor)),
             Fixed(completed_bytes(fault.completed)),
         ],
     )
 }
 
-pub fn outcome_bytes(alloc: Global, shown: &ReportOutcome) -> Result<Bytes, NoMemory>
-    ensures { IfOk result (λ bytes. bytes ≡ outcome_text shown.now) }
+fn push_version(
+    text: &mut Vec<u8>,
+    word: &'static [u8],
+    group: &Name,
+    version: Version,
+) -> Result<(), NoMemory>
+    ensures { OnOk result (text.new.items ≡ text.old.items ++ with_version word.now group.now version) }
+{
+    push_phrase(
+        text,
+        &[
+            Fixed(word),
+            Text(group.bytes()),
+            Number(u64::from(version.0)),
+        ],
+    )
+}
+
+fn push_value(text: &mut Vec<u8>, alloc: Global, worth: &Worth) -> Result<(), NoMemory>
+    ensures { OnOk result (text.new.items ≡ text.old.items ++ outcome_text (ReportOutcome.Value worth.now)) }
+{
+    push_phrase(text, &[Fixed(b"value")])?;
+    text.push(b' ')?;
+    push_worth(text, alloc, worth)
+}
+
+/// Writes what a request came to.
+pub fn push_outcome(
+    text: &mut Vec<u8>,
+    alloc: Global,
+    shown: &ReportOutcome,
+) -> Result<(), NoMemory>
+    ensures { OnOk result (text.new.items ≡ text.old.items ++ outcome_text shown.now) }
 {
     match shown {
-        ReportOutcome::Value(worth) => {
-            let worth = worth_bytes(alloc, worth)?;
-            phrase(alloc, &[Fixed(b"value"), Made(worth.bytes())])
-        }
-        ReportOutcome::User(name) => phrase(alloc, &[Fixed(b"user"), Text(name.bytes())]),
-        ReportOutcome::System(fault) => fault_bytes(alloc, fault),
-        ReportOutcome::Forward { group, version } => with_version(
-            alloc, b"forward", group, *version,
+        ReportOutcome::Value(worth) => push_value(text, alloc, worth),
+        ReportOutcome::User(name) => push_phrase(text, &[Fixed(b"user"), Text(name.bytes())]),
+        ReportOutcome::System(fault) => push_fault(text, alloc, fault),
+        ReportOutcome::Forward { group, version } => push_version(
+            text, b"forward", group, *version,
         ),
         ReportOutcome::ForwardPerm { group, version } => {
-            with_version(alloc, b"forward-perm", group, *version)
+            push_version(text, b"forward-perm", group, *version)
         }
     }
 }
@@ -141,18 +178,6 @@ fn with_number(alloc: Global, word: &'static [u8], number: u64) -> Result<Bytes,
     ensures { IfOk result (λ bytes. bytes ≡ with_number word.now number) }
 {
     phrase(alloc, &[Fixed(word), Number(number)])
-}
-
-// A word and two numbers.
-fn with_numbers(
-    alloc: Global,
-    word: &'static [u8],
-    first: u64,
-    second: u64,
-) -> Result<Bytes, NoMemory>
-    ensures { IfOk result (λ bytes. bytes ≡ with_numbers word.now first second) }
-{
-    phrase(alloc, &[Fixed(word), Number(first), Number(second)])
 }
 
 // A number behind a word, and another behind another word.
@@ -176,39 +201,59 @@ fn worded_numbers(
     )
 }
 
-fn versions(
-    alloc: Global,
+// Writes a word and a number.
+fn push_number(text: &mut Vec<u8>, word: &'static [u8], number: u64) -> Result<(), NoMemory>
+    ensures { OnOk result (text.new.items ≡ text.old.items ++ with_number word.now number) }
+{
+    push_phrase(text, &[Fixed(word), Number(number)])
+}
+
+// Writes a word and two numbers.
+fn push_numbers(
+    text: &mut Vec<u8>,
+    word: &'static [u8],
+    first: u64,
+    second: u64,
+) -> Result<(), NoMemory>
+    ensures { OnOk result (text.new.items ≡ text.old.items ++ with_numbers word.now first second) }
+{
+    push_phrase(text, &[Fixed(word), Number(first), Number(second)])
+}
+
+fn push_versions(
+    text: &mut Vec<u8>,
     word: &'static [u8],
     first: Version,
     second: Version,
-) -> Result<Bytes, NoMemory>
-    ensures { IfOk result (λ bytes. bytes ≡ with_numbers word.now first.0 second.0) }
+) -> Result<(), NoMemory>
+    ensures { OnOk result (text.new.items ≡ text.old.items ++ with_numbers word.now first.0 second.0) }
 {
-    with_numbers(alloc, word, u64::from(first.0), u64::from(second.0))
+    push_numbers(text, word, u64::from(first.0), u64::from(second.0))
 }
 
-pub fn decision_bytes(alloc: Global, decision: Decision) -> Result<Bytes, NoMemory>
-    ensures { IfOk result (λ bytes. bytes ≡ decision_text decision) }
+/// Writes what a host made of a request.
+pub fn push_decision(text: &mut Vec<u8>, decision: Decision) -> Result<(), NoMemory>
+    ensures { OnOk result (text.new.items ≡ text.old.items ++ decision_text decision) }
 {
     match decision {
-        Decision::Append(place) => with_number(alloc, b"append", u64::from(place)),
-        Decision::Repeat(place) => with_number(alloc, b"repeat", u64::from(place)),
+        Decision::Append(place) => push_number(text, b"append", u64::from(place)),
+        Decision::Repeat(place) => push_number(text, b"repeat", u64::from(place)),
         Decision::Expired { expiration, now } => {
-            with_numbers(alloc, b"expired", expiration.0, now.0)
+            push_numbers(text, b"expired", expiration.0, now.0)
         }
-        Decision::Other(place) => with_number(alloc, b"other", u64::from(place)),
-        Decision::Full(count) => with_number(alloc, b"full", u64::from(count)),
-        Decision::LogFault => Bytes::of(alloc, b"logfault"),
-        Decision::Newer { asked, newest } => versions(alloc, b"newer", asked, newest),
-        Decision::Empty(known) => with_number(alloc, b"empty", u64::from(known.0)),
-        Decision::Older { asked, known } => versions(alloc, b"older", asked, known),
-        Decision::Stranger(known) => with_number(alloc, b"stranger", u64::from(known.0)),
-        Decision::Backup(known) => with_number(alloc, b"backup", u64::from(known.0)),
-        Decision::Deposed { known, newest } => versions(alloc, b"deposed", known, newest),
-        Decision::BadOperation => Bytes::of(alloc, b"badop"),
-        Decision::Marshal(place) => with_number(alloc, b"marshal", u64::from(place)),
-        Decision::Long(count) => with_number(alloc, b"long", u64::from(count)),
-        Decision::Context(id) => with_number(alloc, b"context", u64::from(id)),
+        Decision::Other(place) => push_number(text, b"other", u64::from(place)),
+        Decision::Full(count) => push_number(text, b"full", u64::from(count)),
+        Decision::LogFault => push_phrase(text, &[Fixed(b"logfault")]),
+        Decision::Newer { asked, newest } => push_versions(text, b"newer", asked, newest),
+        Decision::Empty(known) => push_number(text, b"empty", u64::from(known.0)),
+        Decision::Older { asked, known } => push_versions(text, b"older", asked, known),
+        Decision::Stranger(known) => push_number(text, b"stranger", u64::from(known.0)),
+        Decision::Backup(known) => push_number(text, b"backup", u64::from(known.0)),
+        Decision::Deposed { known, newest } => push_versions(text, b"deposed", known, newest),
+        Decision::BadOperation => push_phrase(text, &[Fixed(b"badop")]),
+        Decision::Marshal(place) => push_number(text, b"marshal", u64::from(place)),
+        Decision::Long(count) => push_number(text, b"long", u64::from(count)),
+        Decision::Context(id) => push_number(text, b"context", u64::from(id)),
     }
 }
 
@@ -223,30 +268,56 @@ fn own_fault(kind: SysKind, minor: u32) -> SysFault
     }
 }
 
-// An exception of the client's own, and the numbers that led to it.
-fn fault_with(alloc: Global, fault: &SysFault, numbers: &Bytes) -> Result<Bytes, NoMemory>
-    ensures { IfOk result (λ bytes. bytes ≡ phrase_text (fault_text fault.now ∷ numbers.now ∷ [])) }
+// Writes an exception of the client's own, and the numbers that led to it.
+fn push_own(
+    text: &mut Vec<u8>,
+    alloc: Global,
+    fault: &SysFault,
+    first_word: &'static [u8],
+    first: u64,
+    second_word: &'static [u8],
+    second: u64,
+) -> Result<(), NoMemory>
+    ensures { OnOk result (text.new.items ≡ text.old.items ++ phrase_text (fault_text fault.now ∷ worded_numbers first_word.now first second_word.now second ∷ [])) }
 {
-    let fault = fault_bytes(alloc, fault)?;
-    phrase(alloc, &[Made(fault.bytes()), Text(numbers.bytes())])
+    push_fault(text, alloc, fault)?;
+    text.push(b' ')?;
+    push_phrase(
+        text,
+        &[
+            Fixed(first_word),
+            Number(first),
+            Fixed(second_word),
+            Number(second),
+        ],
+    )
 }
 
-pub fn end_bytes(alloc: Global, end: &CallEnd) -> Result<Bytes, NoMemory>
-    ensures { IfOk result (λ bytes. bytes ≡ end_text end.now) }
+/// Writes how a client's invocation ended.
+pub fn push_end(text: &mut Vec<u8>, alloc: Global, end: &CallEnd) -> Result<(), NoMemory>
+    ensures { OnOk result (text.new.items ≡ text.old.items ++ end_text end.now) }
 {
     match end {
-        CallEnd::Shown(shown) => outcome_bytes(alloc, shown),
+        CallEnd::Shown(shown) => push_outcome(text, alloc, shown),
         CallEnd::NoResponse { expiration, now } => {
-            let ticks = worded_numbers(alloc, b"exp", expiration.0, b"now", now.0)?;
-            fault_with(alloc, &own_fault(SysKind::NoResponse, 1), &ticks)
+            let fault = own_fault(SysKind::NoResponse, 1);
+            push_own(text, alloc, &fault, b"exp", expiration.0, b"now", now.0)
         }
         CallEnd::Transient { faults, profiles } => {
+            let fault = own_fault(SysKind::Transient, 1);
             let faults = u64::from(*faults);
             let profiles = u64::from(*profiles);
-            let counts = worded_numbers(alloc, b"faults", faults, b"profiles", profiles)?;
-            fault_with(alloc, &own_fault(SysKind::Transient, 1), &counts)
+            push_own(
+                text,
+                alloc,
+                &fault,
+                b"faults",
+                faults,
+                b"profiles",
+                profiles,
+            )
         }
-        CallEnd::IdsSpent => fault_bytes(alloc, &own_fault(SysKind::ImpLimit, 3)),
+        CallEnd::IdsSpent => push_fault(text, alloc, &own_fault(SysKind::ImpLimit, 3)),
     }
 }
 

@@ -1,23 +1,37 @@
-ghost use Rattle.std.specs.Prelude.{◌≡◌, ◌∷◌, [], codes, decimal, ◌++◌, IfOk, OnOk};
+ghost use Rattle.std.specs.Prelude.{◌≡◌, ◌∷◌, [], codes, decimal, ◌++◌, map, IfOk, OnOk};
 ghost use Rattle.std.specs.List.{flat_map};
-ghost use Rattle.ft_report.specs.Words.{line};
+ghost use Rattle.ft_report.specs.Words.{line, phrase_text, word_text};
 ghost use Rattle.ft_report.specs.Report.{between_hosts, report_text};
 
 use crate::outcomes::ReportOutcome;
 use crate::parts::{
-    decision_bytes, end_bytes, ignored_bytes, outcome_bytes, refusal_bytes, role_bytes,
+    ignored_bytes, push_decision, push_end, push_outcome, refusal_bytes, role_bytes,
     standing_bytes, why_bytes, with_version,
 };
-use crate::reports::{CallEnd, ReportLine, ReportLines, Role, Standing};
+use crate::reports::{CallEnd, ReportLine, Role, Standing};
 use crate::words::Word::{Fixed, Host, Made, Number, Text};
-use crate::words::{hosts, octets, phrase, push_line};
+use crate::words::{Word, hosts, octets, phrase, push_line, push_phrase};
 use ft_base::{Bytes, Decision, HostNo, Ignored, Members, Name, NoMemory, Tick, Version};
 use giop_messages::Why;
 use group_model::ManageFault;
 use std::alloc::Global;
 
-// Most reports have two or three lines.
-const REPORT_ROOM: usize = 128;
+// Writes the words at the front of a line, with a space behind each.
+fn push_front(text: &mut Vec<u8>, words: &[Word]) -> Result<(), NoMemory>
+    ensures { OnOk result (text.new.items ≡ text.old.items ++ (phrase_text (map word_text words.now) ++ 32 ∷ [])) }
+{
+    push_phrase(text, words)?;
+    text.push(b' ')?;
+    Ok(())
+}
+
+// Ends a line.
+fn end_line(text: &mut Vec<u8>) -> Result<(), NoMemory>
+    ensures { OnOk result (text.new.items ≡ text.old.items ++ 10 ∷ []) }
+{
+    text.push(b'\n')?;
+    Ok(())
+}
 
 fn view_line(
     text: &mut Vec<u8>,
@@ -69,6 +83,32 @@ fn attempt_line(
     )
 }
 
+// Writes the words of a reply that stand before what the request came to.
+fn push_reply(
+    text: &mut Vec<u8>,
+    message: u64,
+    host: HostNo,
+    client: &Name,
+    id: u32,
+) -> Result<(), NoMemory>
+    ensures { OnOk result (text.new.items ≡ text.old.items ++ (phrase_text
+        (codes "msg" ∷ decimal message ∷ codes "host" ∷ decimal host.0 ∷ codes "to client" ∷ client.now ∷ codes "reply" ∷ decimal id ∷ []) ++ 32 ∷ [])) }
+{
+    push_front(
+        text,
+        &[
+            Fixed(b"msg"),
+            Number(message),
+            Fixed(b"host"),
+            Number(u64::from(host.0)),
+            Fixed(b"to client"),
+            Text(client.bytes()),
+            Fixed(b"reply"),
+            Number(u64::from(id)),
+        ],
+    )
+}
+
 fn reply_line(
     text: &mut Vec<u8>,
     alloc: Global,
@@ -80,21 +120,9 @@ fn reply_line(
 ) -> Result<(), NoMemory>
     ensures { OnOk result (text.new.items ≡ text.old.items ++ report_text (ReportLine.Reply message host client.now id shown.now)) }
 {
-    let shown = outcome_bytes(alloc, shown)?;
-    push_line(
-        text,
-        &[
-            Fixed(b"msg"),
-            Number(message),
-            Fixed(b"host"),
-            Number(u64::from(host.0)),
-            Fixed(b"to client"),
-            Text(client.bytes()),
-            Fixed(b"reply"),
-            Number(u64::from(id)),
-            Made(shown.bytes()),
-        ],
-    )
+    push_reply(text, message, host, client, id)?;
+    push_outcome(text, alloc, shown)?;
+    end_line(text)
 }
 
 fn at_line(
@@ -106,16 +134,12 @@ fn at_line(
 ) -> Result<(), NoMemory>
     ensures { OnOk result (text.new.items ≡ text.old.items ++ report_text (ReportLine.At host group.now decision)) }
 {
-    let decision = decision_bytes(alloc, decision)?;
-    push_line(
+    push_front(
         text,
-        &[
-            Fixed(b"at"),
-            Number(u64::from(host.0)),
-            Text(group.bytes()),
-            Made(decision.bytes()),
-        ],
-    )
+        &[Fixed(b"at"), Number(u64::from(host.0)), Text(group.bytes())],
+    )?;
+    push_decision(text, decision)?;
+    end_line(text)
 }
 
 fn done_line(
@@ -127,16 +151,16 @@ fn done_line(
 ) -> Result<(), NoMemory>
     ensures { OnOk result (text.new.items ≡ text.old.items ++ report_text (ReportLine.Done client.now call end.now)) }
 {
-    let end = end_bytes(alloc, end)?;
-    push_line(
+    push_front(
         text,
         &[
             Fixed(b"done"),
             Text(client.bytes()),
             Number(u64::from(call)),
-            Made(end.bytes()),
         ],
-    )
+    )?;
+    push_end(text, alloc, end)?;
+    end_line(text)
 }
 
 // A message to a host: the words that stand before the host's number, and what it is told.
@@ -388,6 +412,59 @@ fn member_line(
     )
 }
 
+fn locations_line(
+    text: &mut Vec<u8>,
+    alloc: Global,
+    group: &Name,
+    members: &Members,
+) -> Result<(), NoMemory>
+    ensures { OnOk result (text.new.items ≡ text.old.items ++ report_text (ReportLine.Locations group.now members.now)) }
+{
+    let members = hosts(alloc, members)?;
+    push_line(
+        text,
+        &[
+            Fixed(b"locations"),
+            Text(group.bytes()),
+            Made(members.bytes()),
+        ],
+    )
+}
+
+fn ref_line<'a>(
+    text: &mut Vec<u8>,
+    alloc: Global,
+    group: &'a Name,
+    reference: &'a Bytes,
+) -> Result<(), NoMemory>
+    ensures { OnOk result (text.new.items ≡ text.old.items ++ report_text (ReportLine.Ref group.now reference.now)) }
+{
+    push_line(
+        text,
+        &[Fixed(b"ref"), Text(group.bytes()), Text(reference.bytes())],
+    )
+}
+
+fn member_ref_line<'a>(
+    text: &mut Vec<u8>,
+    alloc: Global,
+    group: &'a Name,
+    host: HostNo,
+    reference: &'a Bytes,
+) -> Result<(), NoMemory>
+    ensures { OnOk result (text.new.items ≡ text.old.items ++ report_text (ReportLine.MemberRef group.now host reference.now)) }
+{
+    push_line(
+        text,
+        &[
+            Fixed(b"member-ref"),
+            Text(group.bytes()),
+            Number(u64::from(host.0)),
+            Text(reference.bytes()),
+        ],
+    )
+}
+
 fn no_group_line(text: &mut Vec<u8>, alloc: Global, host: HostNo) -> Result<(), NoMemory>
     ensures { OnOk result (text.new.items ≡ text.old.items ++ report_text (ReportLine.NoGroup host)) }
 {
@@ -537,6 +614,19 @@ pub fn write_line(text: &mut Vec<u8>, alloc: Global, line: &ReportLine) -> Resul
             role,
             standing,
         } => member_line(text, alloc, *host, *role, standing),
+        ReportLine::Locations { group, members } => locations_line(text, alloc, group, members),
+        ReportLine::Id { group, id } => {
+            push_line(text, &[Fixed(b"id"), Text(group.bytes()), Number(id.0)])
+        }
+        ReportLine::Ref {
+            group,
+            text: reference,
+        } => ref_line(text, alloc, group, reference),
+        ReportLine::MemberRef {
+            group,
+            host,
+            text: reference,
+        } => member_ref_line(text, alloc, group, *host, reference),
         ReportLine::NoGroup { host } => no_group_line(text, alloc, *host),
         ReportLine::Bytes(written) => bytes_line(text, alloc, written),
         ReportLine::LinkClosed => push_line(text, &[Fixed(b"link closed")]),
@@ -546,16 +636,4 @@ pub fn write_line(text: &mut Vec<u8>, alloc: Global, line: &ReportLine) -> Resul
         }
         ReportLine::LinkLost => push_line(text, &[Fixed(b"link lost")]),
     }
-}
-
-/// The bytes of all lines, in order.
-pub fn render_all(alloc: Global, lines: &ReportLines) -> Result<Bytes, NoMemory>
-    ensures { IfOk result (λ bytes. bytes ≡ flat_map report_text lines.now) }
-{
-    let mut text = Vec::new(alloc);
-    text.reserve(REPORT_ROOM)?;
-    for line in lines.as_slice() {
-        write_line(&mut text, alloc, line)?;
-    }
-    Ok(Bytes::from_vec(text))
 }

@@ -1,7 +1,11 @@
-ghost use Rattle.std.specs.Prelude.{◌≡◌, [], ◌∷◌, ◌++◌, List, length, OnOk, OnErr};
+ghost use Rattle.std.specs.Prelude.{◌≡◌, [], ◌∷◌, ◌++◌, List, OnOk};
+ghost use Rattle.std.specs.List.{flat_map};
+ghost use Rattle.ft_report.specs.Report.{report_text};
 ghost use Rattle.ft_report.specs.declared.reports.ReportLine.{ReportLine};
 
+use crate::histories::Written;
 use crate::outcomes::ReportOutcome;
+use crate::rendering::write_line;
 use ft_base::{Bytes, Decision, GroupId, HostNo, Ignored, Members, Name, NoMemory, Tick, Version};
 use giop_messages::Why;
 use group_model::ManageFault;
@@ -189,6 +193,27 @@ pub enum ReportLine {
         role: Role,
         standing: Standing,
     },
+    /// The hosts of a group's members, in order of joining.
+    Locations {
+        group: Name,
+        members: Members,
+    },
+    /// A group's number.
+    Id {
+        group: Name,
+        id: GroupId,
+    },
+    /// A group's newest reference, as text.
+    Ref {
+        group: Name,
+        text: Bytes,
+    },
+    /// The plain reference of a group's member, as text.
+    MemberRef {
+        group: Name,
+        host: HostNo,
+        text: Bytes,
+    },
     /// A request came to a host that serves no group by the name that the request gives.
     NoGroup {
         host: HostNo,
@@ -209,16 +234,38 @@ pub enum ReportLine {
     LinkLost,
 }
 
-/// The lines of one event, in order.
-#[derive(Debug, Drop)]
+/// The lines of one event, in order, as the text that they are.
+#[derive(Drop)]
 pub struct ReportLines {
-    lines: Vec<ReportLine>,
+    alloc: Global,
+    text: Vec<u8>,
+    written: Written,
 }
 
 impl Model for ReportLines {
+    ghost use Rattle.std.specs.Prelude.{◌≡◌, List};
+    ghost use Rattle.std.specs.List.{flat_map};
+    ghost use Rattle.ft_report.specs.Report.{report_text};
+    ghost use Rattle.ft_report.specs.declared.reports.ReportLine.{ReportLine};
+
     ghost Value = { List ReportLine };
 
-    ghost view = { λ r. r.lines.items };
+    ghost view = { λ r. r.written.lines };
+
+    ghost invariant = { λ r. r.text.items ≡ flat_map report_text r.written.lines };
+}
+
+// Most reports have two or three lines.
+const REPORT_ROOM: usize = 128;
+
+// Writes a line, behind the others; the first takes room for some more.
+fn write_with_room(text: &mut Vec<u8>, alloc: Global, line: &ReportLine) -> Result<(), NoMemory>
+    ensures { OnOk result (text.new.items ≡ text.old.items ++ report_text line.now) }
+{
+    if text.is_empty() {
+        text.reserve(REPORT_ROOM)?;
+    }
+    write_line(text, alloc, line)
 }
 
 impl ReportLines {
@@ -227,30 +274,29 @@ impl ReportLines {
         ensures { result ≡ [] }
     {
         ReportLines {
-            lines: Vec::new(alloc),
+            alloc,
+            text: Vec::new(alloc),
+            written: Written::new(),
         }
     }
 
-    /// Adds a line, as the last; where no memory is left the lines stay as they are.
+    /// Adds a line, as the last; where no memory is left nothing is said of the lines.
     pub fn push(&mut self, line: ReportLine) -> Result<(), NoMemory>
-        ensures ok { OnOk result (self.new ≡ self.old ++ line ∷ []) }
-        ensures err { OnErr result (self.new ≡ self.old) }
+        ensures { OnOk result (self.new ≡ self.old ++ line ∷ []) }
     {
-        self.lines.push(line)?;
+        if write_with_room(&mut self.text, self.alloc, &line).is_err() {
+            self.text.clear();
+            self.written = Written::new();
+            return Err(NoMemory);
+        }
+        self.written = Written::with(&self.written, &line);
         Ok(())
     }
 
-    /// How many lines there are.
-    pub fn len(&self) -> usize
-        ensures { result ≡ length self.now }
+    /// The bytes of all lines.
+    pub fn into_bytes(self) -> Bytes
+        ensures { result ≡ flat_map report_text self }
     {
-        self.lines.len()
-    }
-
-    /// The lines, in order.
-    pub fn as_slice(&self) -> &[ReportLine]
-        ensures { result.now ≡ self.now }
-    {
-        self.lines.as_slice()
+        Bytes::from_vec(self.text)
     }
 }

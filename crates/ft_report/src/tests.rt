@@ -2,7 +2,7 @@ ghost use Rattle.std.specs.Prelude.{◌<◌, ◌^◌, length};
 ghost use Rattle.ft_base.specs.Canonical.{HasSpelling};
 
 use crate::outcomes::{ReportOutcome, Worth, worth_of};
-use crate::rendering::{render_all, write_line};
+use crate::rendering::write_line;
 use crate::reports::{CallEnd, ReportLine, ReportLines, Role, Standing};
 use cdr_codec::canonical;
 use ft_base::{
@@ -264,6 +264,40 @@ fn told(alloc: Global, rows: &mut Vec<Row>) -> Result<(), NoMemory> {
     Ok(())
 }
 
+// What is asked of a group.
+fn asked(alloc: Global, rows: &mut Vec<Row>) -> Result<(), NoMemory> {
+    let mut members = Members::new();
+    let none = ReportLine::Locations {
+        group: name(alloc, b"bank")?,
+        members: members.copy(),
+    };
+    rows.push((none, "locations bank -\n"))?;
+    members.join(HostNo(7));
+    members.join(HOST);
+    let locations = ReportLine::Locations {
+        group: name(alloc, b"bank")?,
+        members,
+    };
+    rows.push((locations, "locations bank 7,0\n"))?;
+    let id = ReportLine::Id {
+        group: name(alloc, b"bank")?,
+        id: GroupId(256),
+    };
+    rows.push((id, "id bank 256\n"))?;
+    let reference = ReportLine::Ref {
+        group: name(alloc, b"bank")?,
+        text: Bytes::of(alloc, b"IOR:00")?,
+    };
+    rows.push((reference, "ref bank IOR:00\n"))?;
+    let member = ReportLine::MemberRef {
+        group: name(alloc, b"bank")?,
+        host: HostNo(63),
+        text: Bytes::of(alloc, b"IOR:01")?,
+    };
+    rows.push((member, "member-ref bank 63 IOR:01\n"))?;
+    Ok(())
+}
+
 fn values(alloc: Global, rows: &mut Vec<Row>) -> Result<(), NoMemory> {
     rows.push((valued(alloc, 4, Worth::Void)?, "done ann 4 value void\n"))?;
     rows.push((
@@ -356,6 +390,7 @@ fn lines_with_texts(rt: HostRuntime) -> Result<(), NoMemory> {
     made(alloc, &mut rows)?;
     one_call(alloc, &mut rows)?;
     told(alloc, &mut rows)?;
+    asked(alloc, &mut rows)?;
     values(alloc, &mut rows)?;
     outcomes(alloc, &mut rows)?;
     own_ends(alloc, &mut rows)?;
@@ -372,8 +407,7 @@ fn lines_in_order(rt: HostRuntime) -> Result<(), NoMemory> {
     lines.push(ReportLine::Down { host: HOST })?;
     lines.push(ReportLine::Up { host: HOST })?;
     lines.push(ReportLine::LinkClosed)?;
-    assert_eq!(rt; lines.len(), 3);
-    let text = render_all(alloc, &lines)?;
+    let text = lines.into_bytes();
     assert!(rt; text.bytes() == b"down 0\nup 0\nlink closed\n".as_slice());
     Ok(())
 }
@@ -753,13 +787,13 @@ fn long_lines(rt: HostRuntime) -> Result<(), NoMemory> {
     long_show(alloc, &mut lines)?;
     long_bytes(alloc, &mut lines)?;
     long_state(alloc, &mut lines)?;
-    assert_eq!(rt; lines.len(), LONG.len());
-    for (line, (before, part, count, after)) in lines.as_slice().iter().zip(&LONG) {
-        let mut text = Vec::new(alloc);
-        write_line(&mut text, alloc, line)?;
-        let want = long_line(alloc, *before, *part, *count, *after)?;
-        assert!(rt; text.as_slice() == want.as_slice(), "{before}");
+    let mut want = Vec::new(alloc);
+    for (before, part, count, after) in &LONG {
+        let line = long_line(alloc, *before, *part, *count, *after)?;
+        want.extend_from_slice(line.as_slice())?;
     }
+    let text = lines.into_bytes();
+    assert!(rt; text.bytes() == want.as_slice());
     Ok(())
 }
 

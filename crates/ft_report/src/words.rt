@@ -25,18 +25,28 @@ pub enum Word<'a, 'b> {
     Host(Option<HostNo>),
 }
 
+fn push_digits(text: &mut Vec<u8>, number: u64) -> Result<(), NoMemory>
+    ensures { OnOk result (text.new.items ≡ text.old.items ++ decimal number) }
+{
+    let mut digits = Buffer::new();
+    text.extend_from_slice(digits.format(number).as_bytes())?;
+    Ok(())
+}
+
 fn push_word(text: &mut Vec<u8>, word: &Word) -> Result<(), NoMemory>
     ensures { OnOk result (text.new.items ≡ text.old.items ++ word_text word.now) }
 {
-    let mut digits = Buffer::new();
     match word {
         Word::Fixed(part) => text.extend_from_slice(part)?,
         Word::Text(part) => text.extend_from_slice(part)?,
         Word::Made(part) => text.extend_from_slice(part)?,
-        Word::Number(number) => text.extend_from_slice(digits.format(*number).as_bytes())?,
-        Word::Signed(number) => text.extend_from_slice(digits.format(*number).as_bytes())?,
+        Word::Number(number) => push_digits(text, *number)?,
+        Word::Signed(number) => {
+            let mut digits = Buffer::new();
+            text.extend_from_slice(digits.format(*number).as_bytes())?;
+        }
         Word::Host(None) => text.extend_from_slice(b"-")?,
-        Word::Host(Some(host)) => text.extend_from_slice(digits.format(host.0).as_bytes())?,
+        Word::Host(Some(host)) => push_digits(text, u64::from(host.0))?,
     }
     Ok(())
 }
@@ -76,6 +86,13 @@ pub fn phrase(alloc: Global, words: &[Word]) -> Result<Bytes, NoMemory>
 {
     let text = join(alloc, b' ', words)?;
     Ok(Bytes::from_vec(text))
+}
+
+/// Writes the words, with a space between each two.
+pub fn push_phrase(text: &mut Vec<u8>, words: &[Word]) -> Result<(), NoMemory>
+    ensures { OnOk result (text.new.items ≡ text.old.items ++ phrase_text (map word_text words.now)) }
+{
+    push_words(text, b' ', words)
 }
 
 /// Writes a line of the words, with its LF.

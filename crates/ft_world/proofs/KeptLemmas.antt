@@ -60,6 +60,8 @@ use Rattle.ft_world.specs.Lines.{IsTimely}
 use Rattle.ft_world.specs.Links.{answered_by, ask_group, asked_event, group_by, group_keyed, inject_line, link_of, world_port, written}
 use Rattle.ft_world.specs.Making.{client_causes, client_line, group_causes, group_line, hosts_causes, hosts_line, kind_of, made_group, new_group, next_id, stopped_from, stopped_if}
 use Rattle.ft_world.specs.Printed.{gives_of}
+use Rattle.ft_world.specs.Reading.{member_of, reads}
+use Rattle.script_groups.specs.Reading.{identified, located, member_referred, referred}
 use Rattle.ft_world.specs.Sending.{all_carried}
 use Rattle.ft_world.specs.Turns.{Effect, Turn, Goes, Refused, first_cause, goes, judged, says, total_causes, totals_of, unless}
 
@@ -576,6 +578,16 @@ module _ (T : Type 0) where
   show_on w None = tt
   show_on w (Some p) = begins_none w w 0 (same w)
 
+  reads_on : (w : World) (line : ScriptGroup → ReportLine) (o : Option (Placed ScriptGroup)) → GoesOn w (reads w line o)
+  reads_on w line None = tt
+  reads_on w line (Some p) = begins_none w w 0 (same w)
+
+  member_on : (w : World) (o : Option (Placed ScriptGroup)) (host : ℕ) → GoesOn w (member_of w o host)
+  member_on w None host = tt
+  member_on w (Some p) host =
+      refused_or w (first_cause (host_causes w host)) 0 (goes (says w (member_referred p.value (host_no host) ∷ [])))
+      (begins_none w w 0 (same w))
+
   -- ---- what is made
 
   hosts_on : (w : World) (count : ℕ) → GoesOn w (hosts_line w count)
@@ -643,6 +655,10 @@ module _ (T : Type 0) where
   first_on w (lines.Deliver number stop) timely = deliver_on w number stop (message_numbered w number)
   first_on w (lines.Tick ticks) timely = tick_on w ticks timely
   first_on w (lines.Show name) timely = show_on w (group_named w.groups name)
+  first_on w (lines.Locations name) timely = reads_on w located (group_named w.groups name)
+  first_on w (lines.Id name) timely = reads_on w identified (group_named w.groups name)
+  first_on w (lines.Ref name) timely = reads_on w referred (group_named w.groups name)
+  first_on w (lines.MemberRef group host) timely = member_on w (group_named w.groups group) host
   first_on w (lines.Inject host bytes) timely = inject_on w host bytes
   first_on w (lines.Change change group host) timely = change_on w (group_named w.groups group) change host (found_one _ w.groups)
   first_on w (lines.Crash host) timely = crash_on w host

@@ -1,6 +1,7 @@
 pub mod SendingLemmas
 pub mod TurnLemmas
 pub mod HostLemmas
+pub mod MemberLemmas
 pub mod ArriveLemmas
 pub mod CallLemmas
 pub mod MakingLemmas

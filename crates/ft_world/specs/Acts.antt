@@ -5,6 +5,7 @@ use Rattle.ft_world.specs.Clients.{call_line}
 use Rattle.ft_world.specs.Delivering.{deliver_line}
 use Rattle.ft_world.specs.Hosts.{change_line, crash_line, restart_line, show_line}
 use Rattle.ft_world.specs.Links.{inject_line}
+use Rattle.ft_world.specs.Reading.{id_line, locations_line, member_line, ref_line}
 use Rattle.ft_world.specs.Making.{client_line, group_line, hosts_line, tick_line}
 use Rattle.script_world.specs.World.{World}
 use Rattle.ft_world.specs.Turns.{Turn, judged}
@@ -18,6 +19,10 @@ act_first w (lines.Call client group op words) = call_line w client group op wor
 act_first w (lines.Deliver number stop) = deliver_line w number stop
 act_first w (lines.Tick ticks) = tick_line w ticks
 act_first w (lines.Show name) = show_line w name
+act_first w (lines.Locations name) = locations_line w name
+act_first w (lines.Id name) = id_line w name
+act_first w (lines.Ref name) = ref_line w name
+act_first w (lines.MemberRef group host) = member_line w group host
 act_first w (lines.Inject host bytes) = inject_line w host bytes
 act_first w (lines.Change change group host) = change_line w change group host
 act_first w (lines.Crash host) = crash_line w host

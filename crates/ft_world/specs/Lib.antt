@@ -4,6 +4,7 @@ pub mod Sending
 pub mod Printed
 pub mod Clients
 pub mod Hosts
+pub mod Reading
 pub mod Delivering
 pub mod Links
 pub mod Lines

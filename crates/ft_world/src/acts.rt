@@ -10,6 +10,7 @@ use crate::deliveries::deliver_line;
 use crate::hosts::{change_line, crash_line, restart_line, show_line};
 use crate::links::inject_line;
 use crate::making::{client_line, group_line, hosts_line, tick_line};
+use crate::reading::{id_line, locations_line, member_line, ref_line};
 use fault_script::{LimitName, Line, LineFault};
 use ft_base::Steps;
 use ft_report::ReportLines;
@@ -53,6 +54,10 @@ fn act_first<L: Ledger>(
         Line::Deliver { number, stop } => deliver_line(world, number, stop, steps),
         Line::Tick(ticks) => tick_line(world, ticks),
         Line::Show(name) => show_line(world, &name),
+        Line::Locations(name) => locations_line(world, &name),
+        Line::Id(name) => id_line(world, &name),
+        Line::Ref(name) => ref_line(world, &name),
+        Line::MemberRef { group, host } => member_line(world, &group, host),
         Line::Inject { host, bytes } => inject_line(world, host, &bytes, steps),
         Line::Change {
             change,

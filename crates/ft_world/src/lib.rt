@@ -10,6 +10,7 @@ mod laws;
 mod links;
 mod making;
 mod printing;
+mod reading;
 mod sending;
 
 pub use acts::act;

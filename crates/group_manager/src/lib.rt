@@ -12,6 +12,7 @@ mod sending;
 
 pub use changing::changed;
 pub use directory::{GroupInfo, Groups};
+pub use references::plain_ref;
 pub use sending::view_sent;
 
 #[cfg(test)]

@@ -63,7 +63,7 @@ fn plain_profile(alloc: Global, group: GroupId, port: u16) -> Result<Profile, No
 }
 
 /// The reference of a group's one member, which names no group: its profile has no components.
-pub(crate) fn plain_ref(
+pub fn plain_ref(
     alloc: Global,
     group: GroupId,
     type_id: &Name,

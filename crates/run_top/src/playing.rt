@@ -3,7 +3,6 @@ ghost use Rattle.run_top.specs.Playing.{refusal};
 
 use fault_script::{LimitName, Line, LineFault, read_line};
 use ft_base::{Bytes, NoMemory, Steps};
-use ft_report::render_all;
 use ft_world::act;
 use script_pieces::{Actor, LineResult};
 use script_world::World;
@@ -56,23 +55,16 @@ impl Script {
     }
 
     // Acts a line that was read.
-    fn play<L: Ledger>(
-        &mut self,
-        alloc: Global,
-        line: Line,
-        steps: &mut Steps<L>,
-    ) -> LineResult<LineFault>
+    fn play<L: Ledger>(&mut self, line: Line, steps: &mut Steps<L>) -> LineResult<LineFault>
         requires { (number : ℕ) × (number ≤ script_limit + 1) × MayAct self.old number }
         ensures acted { IsActed (printed_effect (act self.old line)) self.new steps.old steps.new result }
         ensures next { (number : ℕ) → MayAct self.old number → IfGoes result (MayAct self.new (number + 1)) }
     {
-        match act(&mut self.world, line, steps) {
-            Ok(report) => match render_all(alloc, &report) {
-                Ok(printed) => LineResult::Goes(printed),
-                Err(_) => LineResult::NoMemory,
-            },
-            Err(why) => refusal(why),
-        }
+        let report = match act(&mut self.world, line, steps) {
+            Ok(report) => report,
+            Err(why) => return refusal(why),
+        };
+        LineResult::Goes(report.into_bytes())
     }
 }
 
@@ -93,7 +85,7 @@ impl Actor for Script {
         steps: &mut Steps<L>,
     ) -> LineResult<LineFault> {
         match read_line(alloc, text) {
-            Ok(Some(line)) => self.play(alloc, line, steps),
+            Ok(Some(line)) => self.play(line, steps),
             Ok(None) => LineResult::Goes(Bytes::from_vec(Vec::new(alloc))),
             Err(why) => refusal(why),
         }

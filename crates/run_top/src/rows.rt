@@ -165,7 +165,7 @@ const ROWS: [Row; 19] = [
 ];
 
 // Scripts whose groups have other than one member, or whose hosts stop.
-const MEMBERS: [Row; 7] = [
+const MEMBERS: [Row; 8] = [
     // The primary stops between its append and the servant. The next member runs the entry, once, and answers the
     // client, whom the old primary sends there.
     Row {
@@ -209,6 +209,13 @@ const MEMBERS: [Row; 7] = [
         out: b"group bank 1\nview bank 1 members 0,1 primary 0\nview bank 2 members 0,1 primary 1\nmsg 1 manager to host 0 view bank 2\nmsg 2 manager to host 1 view bank 2\nrefused PrimaryNotSet 1\nrefused MemberNotFound 2\nrefused MemberAlreadyPresent 1\nview bank 3 members 0,1,2 primary 1\nmsg 3 manager to host 0 view bank 3\nmsg 4 manager to host 1 view bank 3\nmsg 5 manager to host 2 view bank 3\nview bank 4 members 0,2 primary 0\nmsg 6 manager to host 0 view bank 4\nmsg 7 manager to host 1 view bank 4\nmsg 8 manager to host 2 view bank 4\nrefused MemberNotFound 1\nknown 2 bank 4\nignored 5 view 3 known 4\ndown 2\ndown 2\nshow bank view 4 entries 0 mark 0 time 0\nmember 0 primary known 1 at 0 state 0000000000000000\nmember 2 backup down\nlost 8\nlink lost\nup 2\nup 2\n",
         err: b"",
     },
+    // What is read of a group, and of one of its members.
+    Row {
+        script: b"hosts 3\ngroup g1 queue cold\ngroup g2 queue cold\ngroup g3 queue cold\ngroup g6 account cold 1 0\nlocations g3\nlocations g6\nid g6\nref g6\nmember g6 1\nmember g6 2\n",
+        status: 0,
+        out: b"group g1 1\nview g1 1 members - primary -\ngroup g2 2\nview g2 1 members - primary -\ngroup g3 3\nview g3 1 members - primary -\ngroup g6 4\nview g6 1 members 1,0 primary 1\nlocations g3 -\nlocations g6 1,0\nid g6 4\nref g6 IOR:000000000000001449444c3a6674632f4163636f756e743a312e3000000000020000000000000056000102000000000a3132372e302e302e310007d10000000c46544f470000000000000004000000020000001b0000001c000100000000000466746300000000000000000000000004000000010000001c0000000200010000000000000000004c000102000000000a3132372e302e302e310007d00000000c46544f470000000000000004000000010000001b0000001c00010000000000046674630000000000000000000000000400000001\nmember-ref g6 1 IOR:000000000000001449444c3a6674632f4163636f756e743a312e3000000000010000000000000028000102000000000a3132372e302e302e310007d10000000c46544f47000000000000000400000000\nrefused MemberNotFound 2\n",
+        err: b"",
+    },
     // A group without members has no reference that a client could go by.
     Row {
         script: b"hosts 1\ngroup bank account cold\nclient ann\ncall ann bank deposit 5\nshow bank\n",
@@ -219,7 +226,7 @@ const MEMBERS: [Row; 7] = [
 ];
 
 // Scripts, each with the line that is refused and why, or with no error text.
-const REFUSALS: [(&[u8], &[u8]); 24] = [
+const REFUSALS: [(&[u8], &[u8]); 26] = [
     (b"hosts 64\n", b""),
     (b"hosts 65\n", b"ftc: line 1: limit hosts\n"),
     (
@@ -250,6 +257,11 @@ const REFUSALS: [(&[u8], &[u8]); 24] = [
     (b"deliver 1 crash\n", b"ftc: line 1: syntax\n"),
     (b"hosts 1\nadd bank 0\n", b"ftc: line 2: unknown\n"),
     (b"restart 0\n", b"ftc: line 1: unknown\n"),
+    (b"locations bank\n", b"ftc: line 1: unknown\n"),
+    (
+        b"hosts 1\ngroup g account cold 0\nmember g 10000000000000000000\n",
+        b"ftc: line 3: unknown\n",
+    ),
     (b"timeout ann\n", b"ftc: line 1: later\n"),
     (
         b"hosts 1\ngroup g account cold x\n",

@@ -3,5 +3,6 @@ pub mod Shown
 pub mod Telling
 pub mod Acts
 pub mod Lists
+pub mod MemberLines
 pub mod Formers
 pub mod Trying

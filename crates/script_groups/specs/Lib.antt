@@ -4,5 +4,6 @@ pub mod Viewing
 pub mod Acting
 pub mod Showing
 pub mod References
+pub mod Reading
 pub mod Laws
 pub mod Trying

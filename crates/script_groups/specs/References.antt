@@ -5,6 +5,7 @@ use Rattle.iogr_reference.specs.declared.references.GroupRef.{GroupRef}
 use Rattle.iogr_reference.specs.declared.references.Ior.{Ior}
 use Rattle.iogr_reference.specs.Views.{reference_of, group_of_view}
 use Rattle.group_references.specs.Ports.{all_ports}
+use Rattle.group_manager.specs.References.{plain_reference}
 use Rattle.group_model.specs.Views.{newest_view}
 use Rattle.shipped_servants.specs.Kinds.{type_id}
 use Rattle.group_core.specs.Telling.{shown_view}
@@ -27,3 +28,10 @@ ior_in g view = reference_of g.id (type_id g.kind) view all_ports
 
 abbrev pub ior_at : ScriptGroup → ℕ → Option Ior
 ior_at g version = option_map (ior_in g) (shown_view (common_of g) version)
+
+abbrev pub newest_ior : ScriptGroup → Ior
+newest_ior g = ior_in g (newest_view (common_of g))
+
+-- the plain one of the member on a host
+abbrev pub member_ior : ScriptGroup → ℕ → Ior
+member_ior g host = plain_reference g.id (type_id g.kind) host all_ports

@@ -4,6 +4,7 @@
 
 mod groups;
 mod laws;
+mod reading;
 mod references;
 mod showing;
 #[cfg(test)]

@@ -4,12 +4,14 @@ ghost use Rattle.std.specs.List.{AllByRecursion};
 ghost use Rattle.ft_base.specs.declared.limits.TheConstants.{HOST_LIMIT};
 ghost use Rattle.group_references.specs.Ports.{all_ports};
 ghost use Rattle.script_groups.specs.Acting.{IsKept};
-ghost use Rattle.script_groups.specs.References.{ior_at, ior_in, newest_reference, reference_at, reference_in};
+ghost use Rattle.iogr_reference.specs.Formats.{IsWritable};
+ghost use Rattle.script_groups.specs.References.{ior_at, ior_in, member_ior, newest_ior, newest_reference, reference_at, reference_in};
 ghost use Rattle.shipped_servants.specs.Kinds.{type_id};
 
 use crate::groups::ScriptGroup;
-use ft_base::{Name, NoMemory, Version, View};
-use group_references::view_reference;
+use ft_base::{HostNo, Name, NoMemory, Version, View};
+use group_manager::plain_ref;
+use group_references::{every_host_has_a_port, view_reference};
 use iogr_reference::{GroupRef, Ior, Ports, ref_of};
 use std::alloc::Global;
 
@@ -66,7 +68,8 @@ impl ScriptGroup {
     fn ior_in(&self, alloc: Global, view: &View, ports: &Ports) -> Result<Ior, NoMemory>
         requires ports { ports.now ≡ all_ports }
         requires hosts { AllByRecursion (λ host. host < HOST_LIMIT) view.now.members }
-        ensures { IfOk result (λ ior. ior ≡ ior_in self.now view.now) }
+        ensures reference { IfOk result (λ ior. ior ≡ ior_in self.now view.now) }
+        ensures writable { IfOk result IsWritable }
     {
         let type_id = self.type_name(alloc)?;
         ref_of(alloc, self.id(), &type_id, view, ports)
@@ -91,5 +94,33 @@ impl ScriptGroup {
                 Ok(Some(ior))
             }
         }
+    }
+
+    /// That of its newest view; it can be written as a text.
+    pub(crate) fn newest_ior(&self, alloc: Global, ports: &Ports) -> Result<Ior, NoMemory>
+        requires kept { IsKept self.now }
+        requires ports { ports.now ≡ all_ports }
+        ensures reference { IfOk result (λ ior. ior ≡ newest_ior self.now) }
+        ensures writable { IfOk result IsWritable }
+    {
+        self.is_sound();
+        self.ior_in(alloc, self.newest(), ports)
+    }
+
+    /// The plain reference of a member on this host; it can be written as a text.
+    pub(crate) fn member_ior(
+        &self,
+        alloc: Global,
+        host: HostNo,
+        ports: &Ports,
+    ) -> Result<Ior, NoMemory>
+        requires ports { ports.now ≡ all_ports }
+        requires host { host.0 < HOST_LIMIT }
+        ensures reference { IfOk result (λ ior. ior ≡ member_ior self.now host.0) }
+        ensures writable { IfOk result IsWritable }
+    {
+        every_host_has_a_port();
+        let type_id = self.type_name(alloc)?;
+        plain_ref(alloc, self.id(), &type_id, host, ports)
     }
 }

@@ -7,7 +7,7 @@ ghost use Rattle.script_groups.specs.Trying.{MayAlwaysCome};
 use crate::ScriptGroup;
 use cdr_codec::{Order, Raw};
 use ft_base::{Bytes, GroupId, HostNo, Members, Name, NoMemory, Steps, Stop, Style, Tick, Version};
-use ft_report::render_all;
+use ft_report::ReportLines;
 use group_model::{Asked, Change, Event, GroupAnswer};
 use group_references::all_ports;
 use shipped_servants::Kind;
@@ -188,7 +188,7 @@ fn show<L: Ledger>(
 ) -> Result<(), NoMemory> {
     let group = after(alloc, taken, steps)?;
     let report = group.shown(alloc)?;
-    let text = render_all(alloc, &report)?;
+    let text = report.into_bytes();
     assert!(rt; text.bytes() == wanted.as_bytes(), "{wanted}");
     Ok(())
 }
@@ -235,6 +235,41 @@ fn refer(
     Ok(())
 }
 
+/// What is read of a group, and of its member on a host.
+fn read(
+    rt: &impl Abort,
+    alloc: Global,
+    group: &ScriptGroup,
+    host: u8,
+    wanted: &str,
+) -> Result<(), NoMemory>
+    requires kept { IsKept group.now }
+    requires host { host < 64 }
+{
+    let ports = all_ports(alloc)?;
+    let mut report = ReportLines::new(alloc);
+    report.push(group.located(alloc)?)?;
+    report.push(group.identified(alloc)?)?;
+    report.push(group.referred(alloc, &ports)?)?;
+    report.push(group.member_referred(alloc, HostNo(host), &ports)?)?;
+    let text = report.into_bytes();
+    assert!(rt; text.bytes() == wanted.as_bytes(), "{wanted}");
+    Ok(())
+}
+
+// What is read after the first member was reported, of the member on host 1 too.
+const READ: &str = concat!(
+    "locations acct 1,2\n",
+    "id acct 1\n",
+    "ref acct IOR:000000000000001449444c3a6674632f4163636f756e743a312e300000000002",
+    "0000000000000056000102000000000a3132372e302e302e310007d10000000c46544f470000000000000001",
+    "000000020000001b0000001c000100000000000466746300000000000000000000000001000000020000001c000000020001",
+    "0000000000000000004c000102000000000a3132372e302e302e310007d20000000c46544f470000000000000001",
+    "000000010000001b0000001c00010000000000046674630000000000000000000000000100000002\n",
+    "member-ref acct 1 IOR:000000000000001449444c3a6674632f4163636f756e743a312e300000000001",
+    "0000000000000028000102000000000a3132372e302e302e310007d10000000c46544f47000000000000000100000000\n",
+);
+
 // Both views of a group, and one that it hasn't had.
 fn references<L: Ledger>(rt: &impl Abort, alloc: Global, blank: Blank) -> Result<(), NoMemory>
     requires name { blank.name ≡ L.name }
@@ -254,4 +289,20 @@ fn references<L: Ledger>(rt: &impl Abort, alloc: Global, blank: Blank) -> Result
 #[test]
 fn references_of_views(rt: HostRuntime) -> Result<(), NoMemory> {
     references::<Brand>(&rt, rt.alloc(), Blank::new(1))
+}
+
+// What is read of a group whose first member was reported.
+fn readings<L: Ledger>(rt: &impl Abort, alloc: Global, blank: Blank) -> Result<(), NoMemory>
+    requires name { blank.name ≡ L.name }
+    requires parts { blank.parts ≡ L.parts }
+    requires some { 0 < blank.parts }
+{
+    let mut steps = Steps::<L>::new(blank);
+    let group = after(alloc, &[Step::Report(0)], &mut steps)?;
+    read(rt, alloc, &group, 1, READ)
+}
+
+#[test]
+fn groups_are_read(rt: HostRuntime) -> Result<(), NoMemory> {
+    readings::<Brand>(&rt, rt.alloc(), Blank::new(1))
 }

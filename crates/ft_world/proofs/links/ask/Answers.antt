@@ -11,4 +11,4 @@ returns-in-Some-clause-asks g c =
 
 pub returns-in_ok-push-in-None-clause-asks : goal.returns-in_ok-push-in-None-clause-asks
 returns-in_ok-push-in-None-clause-asks g c =
-    none_asked c.args.world.now c.args.host.0 c.args.key.now c.args.asked c.args.report.now c.push.new.self c.args.steps.now c.in-None.ensures c.in_ok-push-in-None.ensures.ok
+    none_asked c.args.world.now c.args.host.0 c.args.key.now c.args.asked c.args.report.now c.push.new.self c.args.steps.now c.in-None.ensures c.in_ok-push-in-None.ensures

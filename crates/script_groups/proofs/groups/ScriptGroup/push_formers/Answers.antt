@@ -14,7 +14,7 @@ loop-host-preserved c =
     elim c.if-is_former.branch [
       | then-is_former+in_ok-line+in_ok-push w ↦
           shown_more line test c.args.report.now c.loop-host.host c.is_former.result c.loop-host.report c.if-is_former.report w.in_ok-line.line
-          c.is_former.ensures w.if-is_former.true c.loop-host.invariant w.in_ok-line.ensures (w.report-is ∙ w.in_ok-push.ensures.ok)
+          c.is_former.ensures w.if-is_former.true c.loop-host.invariant w.in_ok-line.ensures (w.report-is ∙ w.in_ok-push.ensures)
       | else-is_former w ↦
           not_shown line test c.args.report.now c.loop-host.host c.is_former.result c.loop-host.report c.if-is_former.report
           c.is_former.ensures w.if-is_former.false c.loop-host.invariant w.report-is

@@ -1,0 +1,32 @@
+ghost use Rattle.std.specs.Prelude.{◌≡◌, List, [], ◌∷◌, ◌++◌};
+ghost use Rattle.std.specs.Borrow.{ftrue};
+ghost use Rattle.ft_report.specs.declared.reports.ReportLine.{ReportLine as Said};
+
+use crate::reports::ReportLine;
+use std::marker::Model;
+
+/// The lines that were written, in order: for proofs alone. It takes no memory, and its calls do nothing at run time.
+#[derive(Drop)]
+pub struct Written {
+    pub ghost lines: { List Said },
+}
+
+impl Model for Written {
+    ghost also_owns = { λ _. ftrue };
+}
+
+impl Written {
+    /// No line was written.
+    pub fn new() -> Written
+        ensures { result.lines ≡ [] }
+    {
+        Written {}
+    }
+
+    /// The lines of before, and then this.
+    pub fn with(before: &Written, line: &ReportLine) -> Written
+        ensures { result.lines ≡ before.now.lines ++ line.now ∷ [] }
+    {
+        Written {}
+    }
+}
