@@ -14,3 +14,5 @@ pub use reports::{CallEnd, ReportLine, ReportLines, Role, Standing};
 
 #[cfg(test)]
 mod tests;
+#[cfg(test)]
+mod worth_tests;

@@ -1,14 +1,9 @@
 ghost use Rattle.std.specs.Prelude.{◌<◌, ◌^◌, length};
-ghost use Rattle.ft_base.specs.Canonical.{HasSpelling};
 
-use crate::outcomes::{ReportOutcome, Worth, worth_of};
+use crate::outcomes::{ReportOutcome, Worth};
 use crate::rendering::write_line;
 use crate::reports::{CallEnd, ReportLine, ReportLines, Role, Standing};
-use cdr_codec::canonical;
-use ft_base::{
-    Bytes, Decision, GroupId, HostNo, Ignored, Members, Name, NoMemory, RESULT_LIMIT, Tick, Value,
-    Version,
-};
+use ft_base::{Bytes, Decision, GroupId, HostNo, Ignored, Members, Name, NoMemory, Tick, Version};
 use giop_messages::Why;
 use group_model::ManageFault;
 use std::alloc::Global;
@@ -76,7 +71,7 @@ fn done(alloc: Global, call: u32, end: CallEnd) -> Result<ReportLine, NoMemory> 
     Ok(ReportLine::Done { client, call, end })
 }
 
-fn valued(alloc: Global, call: u32, worth: Worth) -> Result<ReportLine, NoMemory> {
+pub(crate) fn valued(alloc: Global, call: u32, worth: Worth) -> Result<ReportLine, NoMemory> {
     done(alloc, call, CallEnd::Shown(ReportOutcome::Value(worth)))
 }
 
@@ -368,7 +363,7 @@ fn own_ends(alloc: Global, rows: &mut Vec<Row>) -> Result<(), NoMemory> {
     Ok(())
 }
 
-fn is_written(alloc: Global, line: &ReportLine, want: &str) -> Result<bool, NoMemory> {
+pub(crate) fn is_written(alloc: Global, line: &ReportLine, want: &str) -> Result<bool, NoMemory> {
     let mut text = Vec::new(alloc);
     write_line(&mut text, alloc, line)?;
     Ok(text.as_slice() == want.as_bytes())
@@ -794,37 +789,5 @@ fn long_lines(rt: HostRuntime) -> Result<(), NoMemory> {
     }
     let text = lines.into_bytes();
     assert!(rt; text.bytes() == want.as_slice());
-    Ok(())
-}
-
-// Whether a value, in canonical form, is printed so in a line.
-fn is_printed(alloc: Global, value: &Value, want: &str) -> Result<bool, NoMemory>
-    requires { HasSpelling value.now }
-{
-    let form = canonical(alloc, std::slice::from_ref(value))?;
-    if form.bytes().len() > RESULT_LIMIT {
-        return Ok(false);
-    }
-    let worth = worth_of(alloc, Some(value.par()), &form)?;
-    let line = valued(alloc, 1, worth)?;
-    is_written(alloc, &line, want)
-}
-
-#[test]
-fn values_of_each_type(rt: HostRuntime) -> Result<(), NoMemory> {
-    let alloc = rt.alloc();
-    let text = Value::Text(Bytes::of(alloc, b"ok")?);
-    let octets = Value::Octets(Bytes::of(alloc, b"ok\x00")?);
-    assert!(rt; is_printed(alloc, &Value::I64(-2), "done ann 1 value -2\n")?);
-    assert!(rt;
-        is_printed(
-            alloc,
-            &Value::U32(u32::MAX),
-            "done ann 1 value 4294967295\n"
-        )?
-    );
-    assert!(rt; is_printed(alloc, &Value::Bool(false), "done ann 1 value false\n")?);
-    assert!(rt; is_printed(alloc, &text, "done ann 1 value 6f6b\n")?);
-    assert!(rt; is_printed(alloc, &octets, "done ann 1 value 6f6b00\n")?);
     Ok(())
 }
