@@ -1,6 +1,6 @@
 -- Arguments are values of their parameters, which have a canonical form.
 use Rattle.std.proofs.Common.{◌≡◌, ℕ, ◌+◌, ◌<◌, ◌^◌, ◌&&◌, ◌∙◌, Bool, true, false, List, [], ◌∷◌, ◌++◌, length, append_assoc, append-nil, map, Option, Some, None, arith, nat_lt, sym, ap, subst, cond, refl}
-use Rattle.std.specs.Prelude.{ℤ, pos, negsuc, option_map, option_and_then, is_none, codes}
+use Rattle.std.specs.Prelude.{ℤ, pos, negsuc, option_and_then, is_none, codes}
 use Rattle.std.specs.Int.{w64}
 use Rattle.std.specs.Int.RustNames.{FitsSigned}
 use Rattle.std.specs.List.{All}
@@ -16,20 +16,8 @@ use Rattle.ft_base.specs.declared.requests.Par.TheVariants.{I64, U32, Bool as Bo
 use Rattle.ft_base.specs.declared.values.Value.{Value}
 use Rattle.ft_base.specs.declared.values.Value.TheVariants as values
 use Rattle.fault_script.specs.Numbers.{number, decimal, is_within, within, signed_64, below, unsigned_32}
+use Rattle.fault_script.proofs.FormLemmas.{mapped, chained, chosen}
 use Rattle.fault_script.specs.Arguments.{ArgumentState, text_of, countable, octets_of, argument, argument_from, arguments}
-
--- the value under a map, and under a chain
-mapped : {X Y : Type 0} (f : X → Y) (from : Option X) (y : Y) → option_map f from ≡ Some y → (x : X) × (from ≡ Some x) × (f x ≡ y)
-mapped f None y e = cc
-mapped f (Some x) y e = let same : f x ≡ y = cc in (x, refl, same)
-
-chained : {X Y : Type 0} (f : X → Option Y) (from : Option X) (y : Y) → option_and_then f from ≡ Some y → (x : X) × (from ≡ Some x) × (f x ≡ Some y)
-chained f None y e = cc
-chained f (Some x) y e = (x, refl, e)
-
-chosen : {X : Type 0} (b : Bool) (value wanted : X) → cond b (Some value) None ≡ Some wanted → (b ≡ true) × (value ≡ wanted)
-chosen true value wanted e = let same : value ≡ wanted = cc in (refl, same)
-chosen false value wanted e = cc
 
 bits_fit : (value : ℤ) → is_within (2 ^ 63) value ≡ true → FitsSigned w64 value
 bits_fit (pos n) e = let small = ltb-true n (2 ^ 63) e in omega arith

@@ -1,11 +1,9 @@
 -- What is read is of its form.
 use Rattle.std.proofs.Common.{◌≡◌, ℕ, ◌≤◌, ◌^◌, ◌==◌, ◌&&◌, ◌∙◌, Bool, true, false, List, [], ◌∷◌, Option, Some, None, Result, Ok, Err, arith, nat_lt, sym, ap, subst, cond, refl}
 use Rattle.std.specs.Prelude.{codes, option_map, option_and_then}
-use Rattle.std.specs.List.{AllZip}
 use Rattle.std.specs.Str.{bytes_eq}
 use Rattle.std.proofs.lemmas.Bool.{and_parts, ltb-true}
 use Rattle.std.proofs.lemmas.Bool.Decides.{nat_tests}
-use Rattle.std.proofs.lemmas.Slice.Eq.{bytes_eq-Decides}
 use Rattle.ft_base.specs.declared.decisions.Stop.{Stop}
 use Rattle.ft_base.specs.declared.decisions.Stop.TheVariants as stops
 use Rattle.ft_base.specs.declared.views.Style.{Style}
@@ -13,10 +11,12 @@ use Rattle.ft_base.specs.declared.views.Style.TheVariants as styles
 use Rattle.fault_script.specs.Words.{is_comment, is_script_name, is_operation, only}
 use Rattle.fault_script.specs.Numbers.{number, capped, host_number, host_numbers, from_one, positive_number}
 use Rattle.fault_script.specs.Arguments.{octets_of}
-use Rattle.fault_script.specs.Forms.{is_unbuilt, change_of, verb, only_host, hosts_of, hosts_line, kind_of, style_of, built_group, group_of, group_line, client_line, call_line, stop_named, stop_of, deliver_of, deliver_line, tick_of, tick_line, show_line, asked_of, locations_line, id_line, ref_line, member_at, member_line, inject_of, inject_line, change_at, change_line, crash_of, restart_of, line_of_verb, line_of, as_some, parse_words}
+use Rattle.fault_script.specs.Forms.{is_unbuilt, change_of, making, verb, only_host, hosts_of, hosts_line, kind_of, style_of, built_group, group_of, group_line, client_line, call_line, bind_line, stop_named, stop_of, deliver_of, deliver_line, tick_of, tick_line, show_line, asked_of, locations_line, id_line, ref_line, timeout_line, member_at, member_line, inject_of, inject_line, change_at, change_line, crash_of, restart_of, grow_at, grow_line, delete_line, line_of_verb, line_of, as_some, parse_words}
 use Rattle.fault_script.specs.Grammar.{Spells, IsNumber, kind_word, stop_words, change_word}
+use Rattle.fault_script.proofs.FormLemmas.{guarded, guarded_not, same_text, text_case, kind_named, host_some, only_host_some}
+use Rattle.fault_script.proofs.EachLemmas.{each_apart}
+use Rattle.fault_script.proofs.SettingLemmas.{create_spelled, set_spelled, unset_spelled, get_spelled}
 use Rattle.fault_script.specs.declared.lines.KindWord.{KindWord}
-use Rattle.fault_script.specs.declared.lines.KindWord.TheVariants as kinds
 use Rattle.fault_script.specs.declared.lines.MemberChange.{MemberChange}
 use Rattle.fault_script.specs.declared.lines.MemberChange.TheVariants as changes
 use Rattle.fault_script.specs.declared.lines.Line.{Line}
@@ -25,18 +25,6 @@ use Rattle.fault_script.specs.declared.lines.LineFault.{LineFault}
 use Rattle.fault_script.specs.declared.lines.LineFault.TheVariants.{Later, Syntax}
 use Rattle.fault_script.specs.declared.verbs.Verb.{Verb}
 use Rattle.fault_script.specs.declared.verbs.Verb.TheVariants as verbs
-
--- what stands under a test that refuses the rest
-guarded : {A : Type 0} (b : Bool) (answer : Result A LineFault) (fault : LineFault) (value : A) → cond b answer (Err fault) ≡ Ok value → (b ≡ true) × (answer ≡ Ok value)
-guarded true answer fault value e = (refl, e)
-guarded false answer fault value e = cc
-
-guarded_not : {A : Type 0} (b : Bool) (answer : Result A LineFault) (fault : LineFault) (value : A) → cond b (Err fault) answer ≡ Ok value → (b ≡ false) × (answer ≡ Ok value)
-guarded_not true answer fault value e = cc
-guarded_not false answer fault value e = (refl, e)
-
-same_text : (a b : List ℕ) → bytes_eq a b ≡ true → a ≡ b
-same_text a b e = (bytes_eq-Decides a b).0 e
 
 -- a number from 1
 from_one_case : (b : Bool) (word : List ℕ) (kept value : ℕ) → (value == 0) ≡ b → number word ≡ Some value → cond b None (Some (capped value)) ≡ Some kept → IsNumber word kept × (1 ≤ kept)
@@ -56,27 +44,6 @@ positive_some word kept e =
     let go : (n : Option ℕ) → P n = λ n. elim n as P [ None ↦ λ a b. cc | Some value ↦ λ a b. from_one_some word kept value a b ] in
     go (number word) refl e
 
--- the number of a host
-host_case : (word : List ℕ) (kept : ℕ) (value : Option ℕ) → number word ≡ value → option_map capped value ≡ Some kept → IsNumber word kept
-host_case word kept None a b = cc
-host_case word kept (Some value) a b = let same : capped value ≡ kept = cc in (value, a, sym same)
-
-host_some : (word : List ℕ) (kept : ℕ) → host_number word ≡ Some kept → IsNumber word kept
-host_some word kept e = host_case word kept (number word) refl e
-
-only_host_some : (words : List (List ℕ)) (kept : ℕ) → only_host words ≡ Some kept → (digits : List ℕ) × (words ≡ digits ∷ []) × IsNumber digits kept
-only_host_some [] kept e = cc
-only_host_some (word ∷ []) kept e = (word, refl, host_some word kept e)
-only_host_some (word ∷ next ∷ rest) kept e = cc
-
--- the first of some texts that a word is
-text_case : {X Y : Type 0} (around : List ℕ → Y) (spelling : X → Y) (b : Bool) (word text : List ℕ) (here found : X) (others : Option X) → bytes_eq word text ≡ b
-    → spelling here ≡ around text → (others ≡ Some found → around word ≡ spelling found) → cond b (Some here) others ≡ Some found → around word ≡ spelling found
-text_case around spelling true word text here found others test is_text more e =
-    let same : here ≡ found = cc in
-    ap around (same_text word text test) ∙ sym is_text ∙ ap spelling same
-text_case around spelling false word text here found others test is_text more e = more e
-
 -- hosts
 hosts_found : (word : List ℕ) (count : Option ℕ) (line : Line) → positive_number word ≡ count → hosts_of count ≡ Ok line → Spells (codes "hosts" ∷ word ∷ []) line
 hosts_found word None line a b = cc
@@ -91,12 +58,6 @@ hosts_spelled (word ∷ []) line e = hosts_found word (positive_number word) lin
 hosts_spelled (word ∷ next ∷ rest) line e = cc
 
 -- group
-kind_named : (word : List ℕ) (kind : KindWord) → kind_of word ≡ Some kind → word ≡ kind_word kind
-kind_named word kind =
-    text_case (λ w. w) kind_word (bytes_eq word (codes "account")) word (codes "account") kinds.Account kind _ refl refl
-    (text_case (λ w. w) kind_word (bytes_eq word (codes "store")) word (codes "store") kinds.Store kind _ refl refl
-    (text_case (λ w. w) kind_word (bytes_eq word (codes "queue")) word (codes "queue") kinds.Queue kind None refl refl (λ e. cc)))
-
 style_word : Style → List ℕ
 style_word styles.Cold = codes "cold"
 style_word styles.Warm = codes "warm"
@@ -109,26 +70,12 @@ style_named word style =
     (text_case (λ w. w) style_word (bytes_eq word (codes "warm")) word (codes "warm") styles.Warm style _ refl refl
     (text_case (λ w. w) style_word (bytes_eq word (codes "active")) word (codes "active") styles.Active style None refl refl (λ e. cc)))
 
-members_case : (word : List ℕ) (words : List (List ℕ)) (members : List ℕ) (host : Option ℕ) (hosts : Option (List ℕ)) → host_number word ≡ host
-    → ((others : List ℕ) → hosts ≡ Some others → AllZip IsNumber words others)
-    → option_and_then (λ h. option_map (λ hs. h ∷ hs) hosts) host ≡ Some members → AllZip IsNumber (word ∷ words) members
-members_case word words members None hosts a more e = cc
-members_case word words members (Some host) None a more e = cc
-members_case word words members (Some host) (Some hosts) a more e =
-    let same : host ∷ hosts ≡ members = cc in
-    subst (λ (ms : List ℕ). AllZip IsNumber (word ∷ words) ms) same (host_some word host a, more hosts refl)
-
-members_some : (words : List (List ℕ)) (members : List ℕ) → host_numbers words ≡ Some members → AllZip IsNumber words members
-members_some [] members e = let same : [] ≡ members = cc in subst (λ (ms : List ℕ). AllZip IsNumber [] ms) same tt
-members_some (word ∷ words) members e =
-    members_case word words members (host_number word) (host_numbers words) refl (members_some words) e
-
 cold_found : (name kind style : List ℕ) (digits : List (List ℕ)) (k : KindWord) (members : List ℕ) → is_script_name name ≡ true → kind ≡ kind_word k
     → style ≡ codes "cold" → host_numbers digits ≡ Some members → Spells (codes "group" ∷ name ∷ kind ∷ style ∷ digits) (lines.Group name k styles.Cold members)
 cold_found name kind style digits k members named kind_is style_is read =
     let words_are = ap (λ (w : List ℕ). codes "group" ∷ name ∷ w ∷ style ∷ digits) kind_is
     ∙ ap (λ (w : List ℕ). codes "group" ∷ name ∷ kind_word k ∷ w ∷ digits) style_is in
-    (digits, words_are, named, refl, members_some digits members read)
+    (digits, words_are, named, refl, each_apart host_number IsNumber host_some digits members read)
 
 built_found : (name kind style : List ℕ) (digits : List (List ℕ)) (k : KindWord) (s : Style) (members : List ℕ) (line : Line) → is_script_name name ≡ true
     → kind ≡ kind_word k → style ≡ style_word s → host_numbers digits ≡ Some members → built_group name k s members ≡ Ok line
@@ -175,7 +122,7 @@ show_spelled (name ∷ []) line e =
     subst (λ (l : Line). Spells (codes "show" ∷ name ∷ []) l) same (refl, named.0)
 show_spelled (name ∷ next ∷ rest) line e = cc
 
--- what is asked of a group
+-- what is asked of a group or a client
 asked_spelled : (first : List ℕ) (asked : List ℕ → Line) → ((name : List ℕ) → is_script_name name ≡ true → Spells (first ∷ name ∷ []) (asked name))
     → (rest : List (List ℕ)) (line : Line) → asked_of asked (only rest) ≡ Ok line → Spells (first ∷ rest) line
 asked_spelled first asked spells [] line e = cc
@@ -193,6 +140,9 @@ id_spelled = asked_spelled (codes "id") (λ name. lines.Id name) (λ name named.
 
 ref_spelled : (rest : List (List ℕ)) (line : Line) → ref_line rest ≡ Ok line → Spells (codes "ref" ∷ rest) line
 ref_spelled = asked_spelled (codes "ref") (λ name. lines.Ref name) (λ name named. (refl, named))
+
+timeout_spelled : (rest : List (List ℕ)) (line : Line) → timeout_line rest ≡ Ok line → Spells (codes "timeout" ∷ rest) line
+timeout_spelled = asked_spelled (codes "timeout") (λ name. lines.Timeout name) (λ name named. (refl, named))
 
 member_found : (group : List ℕ) (rest : List (List ℕ)) (host : Option ℕ) (line : Line) → only_host rest ≡ host
     → member_at group host ≡ Ok line → Spells (codes "member" ∷ group ∷ rest) line
@@ -219,6 +169,17 @@ call_spelled (client ∷ group ∷ op ∷ rest) line e =
     let two = and_parts (is_script_name client && is_script_name group) (is_operation op) form.0 in
     let one = and_parts (is_script_name client) (is_script_name group) two.0 in
     subst (λ (l : Line). Spells (codes "call" ∷ client ∷ group ∷ op ∷ rest) l) same (refl, one.0, one.1, two.1)
+
+-- bind
+bind_spelled : (rest : List (List ℕ)) (line : Line) → bind_line rest ≡ Ok line → Spells (codes "bind" ∷ rest) line
+bind_spelled [] line e = cc
+bind_spelled (client ∷ []) line e = cc
+bind_spelled (client ∷ group ∷ []) line e =
+    let form = guarded (is_script_name client && is_script_name group) (Ok (lines.Bind client group)) Syntax line e in
+    let same : lines.Bind client group ≡ line = cc in
+    let named = and_parts (is_script_name client) (is_script_name group) form.0 in
+    subst (λ (l : Line). Spells (codes "bind" ∷ client ∷ group ∷ []) l) same (refl, named.0, named.1)
+bind_spelled (client ∷ group ∷ next ∷ rest) line e = cc
 
 -- deliver
 stop_is : (word : List ℕ) (stop : Stop) → stop_named word ≡ Some stop → codes "crash" ∷ word ∷ [] ≡ stop_words stop
@@ -319,12 +280,31 @@ restart_found rest (Some host) line a e =
     subst (λ (l : Line). Spells (codes "restart" ∷ rest) l) same
     (one.0, ap (λ (ws : List (List ℕ)). codes "restart" ∷ ws) one.1, one.2)
 
+grow_found : (group : List ℕ) (rest : List (List ℕ)) (host : Option ℕ) (line : Line) → only_host rest ≡ host
+    → grow_at group host ≡ Ok line → Spells (codes "grow" ∷ group ∷ rest) line
+grow_found group rest None line a e = cc
+grow_found group rest (Some host) line a e =
+    let named = guarded (is_script_name group) (Ok (lines.Grow group host)) Syntax line e in
+    let same : lines.Grow group host ≡ line = cc in
+    let one = only_host_some rest host a in
+    subst (λ (l : Line). Spells (codes "grow" ∷ group ∷ rest) l) same
+    (one.0, ap (λ (ws : List (List ℕ)). codes "grow" ∷ group ∷ ws) one.1, named.0, one.2)
+
+grow_spelled : (rest : List (List ℕ)) (line : Line) → grow_line rest ≡ Ok line → Spells (codes "grow" ∷ rest) line
+grow_spelled [] line e = cc
+grow_spelled (group ∷ rest) line e = grow_found group rest (only_host rest) line refl e
+
+delete_spelled : (rest : List (List ℕ)) (line : Line) → delete_line rest ≡ Ok line → Spells (codes "delete" ∷ rest) line
+delete_spelled = asked_spelled (codes "delete") (λ name. lines.Delete name) (λ name named. (refl, named))
+
 -- the first word
 spelling : Verb → List ℕ
 spelling verbs.Hosts = codes "hosts"
 spelling verbs.Group = codes "group"
 spelling verbs.Client = codes "client"
 spelling verbs.Call = codes "call"
+spelling verbs.Bind = codes "bind"
+spelling verbs.Timeout = codes "timeout"
 spelling verbs.Deliver = codes "deliver"
 spelling verbs.Tick = codes "tick"
 spelling verbs.Show = codes "show"
@@ -336,6 +316,12 @@ spelling verbs.Inject = codes "inject"
 spelling (verbs.Change change) = change_word change
 spelling verbs.Crash = codes "crash"
 spelling verbs.Restart = codes "restart"
+spelling verbs.Create = codes "create"
+spelling verbs.Set = codes "set"
+spelling verbs.Unset = codes "unset"
+spelling verbs.Get = codes "get"
+spelling verbs.Grow = codes "grow"
+spelling verbs.Delete = codes "delete"
 
 change_named : (word : List ℕ) (change : MemberChange) → change_of word ≡ Some change → word ≡ change_word change
 change_named word change =
@@ -352,6 +338,17 @@ change_verb first (Some change) found a e =
     let same : verbs.Change change ≡ found = cc in
     change_named first change a ∙ ap spelling same
 
+making_spelled : (first : List ℕ) (found : Verb) → making first ≡ Some found → first ≡ spelling found
+unfolding spelling
+making_spelled first found =
+    text_case (λ w. w) spelling (bytes_eq first (codes "create")) first (codes "create") verbs.Create found _ refl refl
+    (text_case (λ w. w) spelling (bytes_eq first (codes "set")) first (codes "set") verbs.Set found _ refl refl
+    (text_case (λ w. w) spelling (bytes_eq first (codes "unset")) first (codes "unset") verbs.Unset found _ refl refl
+    (text_case (λ w. w) spelling (bytes_eq first (codes "get")) first (codes "get") verbs.Get found _ refl refl
+    (text_case (λ w. w) spelling (bytes_eq first (codes "grow")) first (codes "grow") verbs.Grow found _ refl refl
+    (text_case (λ w. w) spelling (bytes_eq first (codes "delete")) first (codes "delete") verbs.Delete found _ refl refl
+    (change_verb first (change_of first) found refl))))))
+
 verb_spelled : (first : List ℕ) (found : Verb) → verb first ≡ Some found → first ≡ spelling found
 unfolding spelling
 verb_spelled first found =
@@ -359,6 +356,8 @@ verb_spelled first found =
     (text_case (λ w. w) spelling (bytes_eq first (codes "group")) first (codes "group") verbs.Group found _ refl refl
     (text_case (λ w. w) spelling (bytes_eq first (codes "client")) first (codes "client") verbs.Client found _ refl refl
     (text_case (λ w. w) spelling (bytes_eq first (codes "call")) first (codes "call") verbs.Call found _ refl refl
+    (text_case (λ w. w) spelling (bytes_eq first (codes "bind")) first (codes "bind") verbs.Bind found _ refl refl
+    (text_case (λ w. w) spelling (bytes_eq first (codes "timeout")) first (codes "timeout") verbs.Timeout found _ refl refl
     (text_case (λ w. w) spelling (bytes_eq first (codes "deliver")) first (codes "deliver") verbs.Deliver found _ refl refl
     (text_case (λ w. w) spelling (bytes_eq first (codes "tick")) first (codes "tick") verbs.Tick found _ refl refl
     (text_case (λ w. w) spelling (bytes_eq first (codes "show")) first (codes "show") verbs.Show found _ refl refl
@@ -369,7 +368,7 @@ verb_spelled first found =
     (text_case (λ w. w) spelling (bytes_eq first (codes "inject")) first (codes "inject") verbs.Inject found _ refl refl
     (text_case (λ w. w) spelling (bytes_eq first (codes "crash")) first (codes "crash") verbs.Crash found _ refl refl
     (text_case (λ w. w) spelling (bytes_eq first (codes "restart")) first (codes "restart") verbs.Restart found _ refl refl
-    (change_verb first (change_of first) found refl))))))))))))))
+    (making_spelled first found))))))))))))))))
 
 verb_line_spelled : (found : Option Verb) (first : List ℕ) (rest : List (List ℕ)) (line : Line) → verb first ≡ found → line_of_verb found rest ≡ Ok line → Spells (first ∷ rest) line
 unfolding spelling
@@ -382,6 +381,10 @@ verb_line_spelled (Some verbs.Client) first rest line v e =
     subst (λ (w : List ℕ). Spells (w ∷ rest) line) (sym (verb_spelled first verbs.Client v)) (client_spelled rest line e)
 verb_line_spelled (Some verbs.Call) first rest line v e =
     subst (λ (w : List ℕ). Spells (w ∷ rest) line) (sym (verb_spelled first verbs.Call v)) (call_spelled rest line e)
+verb_line_spelled (Some verbs.Bind) first rest line v e =
+    subst (λ (w : List ℕ). Spells (w ∷ rest) line) (sym (verb_spelled first verbs.Bind v)) (bind_spelled rest line e)
+verb_line_spelled (Some verbs.Timeout) first rest line v e =
+    subst (λ (w : List ℕ). Spells (w ∷ rest) line) (sym (verb_spelled first verbs.Timeout v)) (timeout_spelled rest line e)
 verb_line_spelled (Some verbs.Deliver) first rest line v e =
     subst (λ (w : List ℕ). Spells (w ∷ rest) line) (sym (verb_spelled first verbs.Deliver v)) (deliver_spelled rest line e)
 verb_line_spelled (Some verbs.Tick) first rest line v e =
@@ -404,6 +407,18 @@ verb_line_spelled (Some verbs.Crash) first rest line v e =
     subst (λ (w : List ℕ). Spells (w ∷ rest) line) (sym (verb_spelled first verbs.Crash v)) (crash_found rest (only_host rest) line refl e)
 verb_line_spelled (Some verbs.Restart) first rest line v e =
     subst (λ (w : List ℕ). Spells (w ∷ rest) line) (sym (verb_spelled first verbs.Restart v)) (restart_found rest (only_host rest) line refl e)
+verb_line_spelled (Some verbs.Create) first rest line v e =
+    subst (λ (w : List ℕ). Spells (w ∷ rest) line) (sym (verb_spelled first verbs.Create v)) (create_spelled rest line e)
+verb_line_spelled (Some verbs.Set) first rest line v e =
+    subst (λ (w : List ℕ). Spells (w ∷ rest) line) (sym (verb_spelled first verbs.Set v)) (set_spelled rest line e)
+verb_line_spelled (Some verbs.Unset) first rest line v e =
+    subst (λ (w : List ℕ). Spells (w ∷ rest) line) (sym (verb_spelled first verbs.Unset v)) (unset_spelled rest line e)
+verb_line_spelled (Some verbs.Get) first rest line v e =
+    subst (λ (w : List ℕ). Spells (w ∷ rest) line) (sym (verb_spelled first verbs.Get v)) (get_spelled rest line e)
+verb_line_spelled (Some verbs.Grow) first rest line v e =
+    subst (λ (w : List ℕ). Spells (w ∷ rest) line) (sym (verb_spelled first verbs.Grow v)) (grow_spelled rest line e)
+verb_line_spelled (Some verbs.Delete) first rest line v e =
+    subst (λ (w : List ℕ). Spells (w ∷ rest) line) (sym (verb_spelled first verbs.Delete v)) (delete_spelled rest line e)
 
 as_some_line : (read : Result Line LineFault) (line : Line) → as_some read ≡ Ok (Some line) → read ≡ Ok line
 as_some_line (Ok other) line e = cc

@@ -1,7 +1,9 @@
 pub mod NameLemmas
+pub mod FormLemmas
+pub mod EachLemmas
+pub mod SettingLemmas
 pub mod GrammarLemmas
 pub mod ReadingLemmas
 pub mod LineLemmas
 pub mod OptionLemmas
 pub mod ArgumentLemmas
-pub mod HostLemmas

@@ -1,6 +1,6 @@
 -- What is of a form is read.
 use Rattle.std.proofs.Common.{◌≡◌, ℕ, ◌≤◌, ◌<◌, ◌^◌, ◌==◌, ◌∙◌, true, false, List, [], ◌∷◌, length, Option, Some, Ok, Err, arith, nat_lt, sym, ap, subst, refl}
-use Rattle.std.specs.Prelude.{codes, option_map, option_and_then}
+use Rattle.std.specs.Prelude.{codes, option_and_then}
 use Rattle.std.specs.List.{AllZip}
 use Rattle.std.proofs.lemmas.Bool.Decides.{nat_tests}
 use Rattle.ft_base.specs.declared.decisions.Stop.{Stop}
@@ -10,10 +10,12 @@ use Rattle.ft_base.specs.declared.views.Style.TheVariants as styles
 use Rattle.fault_script.specs.Words.{words, is_script_name, is_operation}
 use Rattle.fault_script.specs.Numbers.{number, capped, host_number, host_numbers, from_one, positive_number}
 use Rattle.fault_script.specs.Arguments.{octets_of}
-use Rattle.fault_script.specs.Forms.{hosts_of, kind_of, group_of, group_line, call_line, stop_of, deliver_of, tick_of, tick_line, member_at, member_line, inject_of, inject_line, change_at, change_line, crash_of, restart_of, as_some, parse_words, parse}
+use Rattle.fault_script.specs.Forms.{hosts_of, group_of, group_line, call_line, bind_line, stop_of, deliver_of, tick_of, tick_line, member_at, member_line, inject_of, inject_line, change_at, change_line, crash_of, restart_of, grow_at, grow_line, as_some, parse_words, parse}
 use Rattle.fault_script.specs.Grammar.{Spells, IsNumber, kind_word, stop_words, change_word}
+use Rattle.fault_script.proofs.FormLemmas.{kind_read, host_read}
+use Rattle.fault_script.proofs.EachLemmas.{each_read}
+use Rattle.fault_script.proofs.SettingLemmas.{create_read, set_read, set_group_read, unset_read, get_read, get_group_read}
 use Rattle.fault_script.specs.declared.lines.KindWord.{KindWord}
-use Rattle.fault_script.specs.declared.lines.KindWord.TheVariants as kinds
 use Rattle.fault_script.specs.declared.lines.MemberChange.{MemberChange}
 use Rattle.fault_script.specs.declared.lines.MemberChange.TheVariants as changes
 use Rattle.fault_script.specs.declared.lines.Line.{Line}
@@ -28,27 +30,11 @@ positive_read word kept is_kept from =
     let not_zero : (is_kept.0 == 0) ≡ false = grind (arith, nat_tests) in
     ap (option_and_then from_one) is_kept.1 ∙ rw not_zero (ap Some (sym is_kept.2))
 
-host_read : (word : List ℕ) (kept : ℕ) → IsNumber word kept → host_number word ≡ Some kept
-host_read word kept is_kept = ap (option_map capped) is_kept.1 ∙ ap Some (sym is_kept.2)
-
-members_read : (words : List (List ℕ)) (members : List ℕ) → AllZip IsNumber words members → host_numbers words ≡ Some members
-members_read [] [] all = refl
-members_read [] (member ∷ members) all = absurd all
-members_read (word ∷ words) [] all = absurd all
-members_read (word ∷ words) (member ∷ members) all =
-    ap (option_and_then (λ h. option_map (λ hs. h ∷ hs) (host_numbers words))) (host_read word member all.0)
-    ∙ ap (option_map (λ hs. member ∷ hs)) (members_read words members all.1)
-
-kind_read : (kind : KindWord) → kind_of (kind_word kind) ≡ Some kind
-kind_read kinds.Account = refl
-kind_read kinds.Store = refl
-kind_read kinds.Queue = refl
-
 group_read : (name : List ℕ) (kind : KindWord) (style : Style) (digits : List (List ℕ)) (members : List ℕ) → is_script_name name ≡ true → style ≡ styles.Cold
     → AllZip IsNumber digits members → group_line (name ∷ kind_word kind ∷ codes "cold" ∷ digits) ≡ Ok (lines.Group name kind style members)
 group_read name kind style digits members named cold all =
     rw named (ap (λ (k : Option KindWord). group_of name k (Some styles.Cold) (host_numbers digits)) (kind_read kind)
-    ∙ ap (group_of name (Some kind) (Some styles.Cold)) (members_read digits members all)
+    ∙ ap (group_of name (Some kind) (Some styles.Cold)) (each_read host_number IsNumber host_read digits members all)
     ∙ ap (λ (s : Style). Ok (lines.Group name kind s members)) (sym cold))
 
 stop_read : (stop : Stop) → stop_of (stop_words stop) ≡ Some stop
@@ -64,6 +50,10 @@ member_read : (group digits : List ℕ) (host : ℕ) → is_script_name group �
     → member_line (group ∷ digits ∷ []) ≡ Ok (lines.MemberRef group host)
 member_read group digits host named is_host = ap (member_at group) (host_read digits host is_host) ∙ rw named refl
 
+grow_read : (group digits : List ℕ) (host : ℕ) → is_script_name group ≡ true → IsNumber digits host
+    → grow_line (group ∷ digits ∷ []) ≡ Ok (lines.Grow group host)
+grow_read group digits host named is_host = ap (grow_at group) (host_read digits host is_host) ∙ rw named refl
+
 change_begins : (change : MemberChange) (rest : List (List ℕ)) → parse_words (change_word change ∷ rest) ≡ as_some (change_line change rest)
 change_begins changes.Add rest = refl
 change_begins changes.Remove rest = refl
@@ -73,6 +63,10 @@ change_begins changes.Report rest = refl
 call_read : (client group op : List ℕ) (rest : List (List ℕ)) → is_script_name client ≡ true → is_script_name group ≡ true → is_operation op ≡ true
     → call_line (client ∷ group ∷ op ∷ rest) ≡ Ok (lines.Call client group op rest)
 call_read client group op rest client_named group_named operation = rw (client_named, group_named, operation) refl
+
+bind_read : (client group : List ℕ) → is_script_name client ≡ true → is_script_name group ≡ true
+    → bind_line (client ∷ group ∷ []) ≡ Ok (lines.Bind client group)
+bind_read client group client_named group_named = rw (client_named, group_named) refl
 
 tick_read : (digits : List ℕ) (count : ℕ) → number digits ≡ Some count → count < 2 ^ 32 → tick_line (digits ∷ []) ≡ Ok (lines.Tick count)
 tick_read digits count is_count small =
@@ -97,6 +91,11 @@ spelled_is_read ws (lines.Client name) s =
 spelled_is_read ws (lines.Call client group op rest) s =
     subst (λ (w : List (List ℕ)). parse_words w ≡ Ok (Some (lines.Call client group op rest))) (sym s.0)
     (ap as_some (call_read client group op rest s.1 s.2 s.3))
+spelled_is_read ws (lines.Bind client group) s =
+    subst (λ (w : List (List ℕ)). parse_words w ≡ Ok (Some (lines.Bind client group))) (sym s.0)
+    (ap as_some (bind_read client group s.1 s.2))
+spelled_is_read ws (lines.Timeout name) s =
+    subst (λ (w : List (List ℕ)). parse_words w ≡ Ok (Some (lines.Timeout name))) (sym s.0) (rw s.1 refl)
 spelled_is_read ws (lines.Deliver message stop) s =
     subst (λ (w : List (List ℕ)). parse_words w ≡ Ok (Some (lines.Deliver message stop))) (sym s.1)
     (ap (λ (n : Option ℕ). as_some (deliver_of n (stop_of (stop_words stop)))) (positive_read s.0 message s.2 s.3)
@@ -126,6 +125,29 @@ spelled_is_read ws (lines.Crash host) s =
 spelled_is_read ws (lines.Restart host) s =
     subst (λ (w : List (List ℕ)). parse_words w ≡ Ok (Some (lines.Restart host))) (sym s.1)
     (ap (λ (n : Option ℕ). as_some (restart_of n)) (host_read s.0 host s.2))
+spelled_is_read ws (lines.Create name kind criteria) s =
+    subst (λ (w : List (List ℕ)). parse_words w ≡ Ok (Some (lines.Create name kind criteria))) (sym s.1)
+    (ap as_some (create_read name kind s.0 criteria s.2 s.3 s.4))
+spelled_is_read ws (lines.Set level property) s =
+    subst (λ (w : List (List ℕ)). parse_words w ≡ Ok (Some (lines.Set level property))) (sym s.0)
+    (ap as_some (set_read level property s.1 s.2))
+spelled_is_read ws (lines.SetGroup group property) s =
+    subst (λ (w : List (List ℕ)). parse_words w ≡ Ok (Some (lines.SetGroup group property))) (sym s.0)
+    (ap as_some (set_group_read group property s.1 s.2 s.3))
+spelled_is_read ws (lines.Unset level name) s =
+    subst (λ (w : List (List ℕ)). parse_words w ≡ Ok (Some (lines.Unset level name))) (sym s.0)
+    (ap as_some (unset_read level name s.1))
+spelled_is_read ws (lines.Get level name) s =
+    subst (λ (w : List (List ℕ)). parse_words w ≡ Ok (Some (lines.Get level name))) (sym s.0)
+    (ap as_some (get_read level name s.1))
+spelled_is_read ws (lines.GetGroup group name) s =
+    subst (λ (w : List (List ℕ)). parse_words w ≡ Ok (Some (lines.GetGroup group name))) (sym s.0)
+    (ap as_some (get_group_read group name s.1 s.2))
+spelled_is_read ws (lines.Grow group host) s =
+    subst (λ (w : List (List ℕ)). parse_words w ≡ Ok (Some (lines.Grow group host))) (sym s.1)
+    (ap as_some (grow_read group s.0 host s.2 s.3))
+spelled_is_read ws (lines.Delete name) s =
+    subst (λ (w : List (List ℕ)). parse_words w ≡ Ok (Some (lines.Delete name))) (sym s.0) (rw s.1 refl)
 
 -- a line that is too long is refused, whatever stands in it
 pub parse-long : (text : List ℕ) → 4096 < length text → parse text ≡ Err (Limit limits.Line)

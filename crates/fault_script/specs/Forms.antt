@@ -3,9 +3,11 @@
 use Rattle.std.specs.Prelude.{ℕ, ◌^◌, ◌&&◌, Bool, nat_lt, if◌then◌else◌, List, [], ◌∷◌, length, codes, Option, Some, None, option_map, option_and_then, Result, Ok, Err}
 use Rattle.std.specs.List.{list_any}
 use Rattle.std.specs.Str.{bytes_eq}
-use Rattle.fault_script.specs.Words.{words, is_comment, is_script_name, is_operation, only}
+use Rattle.fault_script.specs.Words.{words, is_comment, is_script_name, is_operation, each, only}
 use Rattle.fault_script.specs.Numbers.{number, host_number, host_numbers, positive_number}
 use Rattle.fault_script.specs.Arguments.{octets_of}
+use Rattle.fault_script.specs.Properties.{is_property_name, property_said, criterion, is_later}
+use Rattle.property_manager.specs.declared.settings.Property.{Property}
 use Rattle.ft_base.specs.declared.decisions.Stop.{Stop}
 use Rattle.ft_base.specs.declared.decisions.Stop.TheVariants as stops
 use Rattle.ft_base.specs.declared.views.Style.{Style}
@@ -14,6 +16,8 @@ use Rattle.fault_script.specs.declared.lines.KindWord.{KindWord}
 use Rattle.fault_script.specs.declared.lines.KindWord.TheVariants as kinds
 use Rattle.fault_script.specs.declared.lines.MemberChange.{MemberChange}
 use Rattle.fault_script.specs.declared.lines.MemberChange.TheVariants as changes
+use Rattle.fault_script.specs.declared.lines.Level.{Level}
+use Rattle.fault_script.specs.declared.lines.Level.TheVariants as levels
 use Rattle.fault_script.specs.declared.lines.Line.{Line}
 use Rattle.fault_script.specs.declared.lines.Line.TheVariants as lines
 use Rattle.fault_script.specs.declared.lines.LimitName.TheVariants as limits
@@ -25,9 +29,8 @@ use Rattle.fault_script.specs.declared.verbs.Verb.TheVariants as verbs
 -- the first words of lines that are not built yet
 abbrev pub unbuilt : List (List ℕ)
 unbuilt =
-    codes "create" ∷ codes "set" ∷ codes "unset" ∷ codes "get" ∷ codes "grow" ∷ codes "delete" ∷ codes "bind" ∷ codes "timeout"
-    ∷ codes "poll" ∷ codes "sweep" ∷ codes "subscribe" ∷ codes "unsubscribe" ∷ codes "pull"
-    ∷ codes "checkpoint" ∷ codes "update" ∷ codes "logfail" ∷ []
+    codes "poll" ∷ codes "sweep" ∷ codes "subscribe" ∷ codes "unsubscribe" ∷ codes "pull" ∷ codes "checkpoint"
+    ∷ codes "update" ∷ codes "logfail" ∷ []
 
 -- a line with this first word is `later`
 abbrev pub is_unbuilt : List ℕ → Bool
@@ -42,6 +45,17 @@ change_of first =
     else (if bytes_eq first (codes "report") then Some changes.Report
     else None)))
 
+-- the first words of lines that make a group by properties, set these, or change a group
+abbrev pub making : List ℕ → Option Verb
+making first =
+    if bytes_eq first (codes "create") then Some verbs.Create
+    else (if bytes_eq first (codes "set") then Some verbs.Set
+    else (if bytes_eq first (codes "unset") then Some verbs.Unset
+    else (if bytes_eq first (codes "get") then Some verbs.Get
+    else (if bytes_eq first (codes "grow") then Some verbs.Grow
+    else (if bytes_eq first (codes "delete") then Some verbs.Delete
+    else option_map (λ change. verbs.Change change) (change_of first))))))
+
 -- the first words of lines that are built
 abbrev pub verb : List ℕ → Option Verb
 verb first =
@@ -49,6 +63,8 @@ verb first =
     else (if bytes_eq first (codes "group") then Some verbs.Group
     else (if bytes_eq first (codes "client") then Some verbs.Client
     else (if bytes_eq first (codes "call") then Some verbs.Call
+    else (if bytes_eq first (codes "bind") then Some verbs.Bind
+    else (if bytes_eq first (codes "timeout") then Some verbs.Timeout
     else (if bytes_eq first (codes "deliver") then Some verbs.Deliver
     else (if bytes_eq first (codes "tick") then Some verbs.Tick
     else (if bytes_eq first (codes "show") then Some verbs.Show
@@ -59,7 +75,7 @@ verb first =
     else (if bytes_eq first (codes "inject") then Some verbs.Inject
     else (if bytes_eq first (codes "crash") then Some verbs.Crash
     else (if bytes_eq first (codes "restart") then Some verbs.Restart
-    else option_map (λ change. verbs.Change change) (change_of first))))))))))))))
+    else making first)))))))))))))))
 
 -- the one host that words name by its number
 abbrev pub only_host : List (List ℕ) → Option ℕ
@@ -128,6 +144,16 @@ call_line (client ∷ group ∷ []) = Err Syntax
 call_line (client ∷ group ∷ op ∷ rest) =
     if is_script_name client && is_script_name group && is_operation op then Ok (lines.Call client group op rest) else Err Syntax
 
+-- a client and a group by their names
+abbrev pub bind_of : List ℕ → Option (List ℕ) → Result Line LineFault
+bind_of client None = Err Syntax
+bind_of client (Some group) = if is_script_name client && is_script_name group then Ok (lines.Bind client group) else Err Syntax
+
+-- `bind C G`
+abbrev pub bind_line : List (List ℕ) → Result Line LineFault
+bind_line [] = Err Syntax
+bind_line (client ∷ rest) = bind_of client (only rest)
+
 -- where a host crashes in a delivery
 abbrev pub stop_named : List ℕ → Option Stop
 stop_named word =
@@ -169,7 +195,7 @@ show_of (Some name) = if is_script_name name then Ok (lines.Show name) else Err 
 abbrev pub show_line : List (List ℕ) → Result Line LineFault
 show_line rest = show_of (only rest)
 
--- what is asked of a group, by its name
+-- what is asked of a group or a client, by its name
 abbrev pub asked_of : (List ℕ → Line) → Option (List ℕ) → Result Line LineFault
 asked_of asked None = Err Syntax
 asked_of asked (Some name) = if is_script_name name then Ok (asked name) else Err Syntax
@@ -185,6 +211,10 @@ id_line rest = asked_of (λ name. lines.Id name) (only rest)
 -- `ref G`
 abbrev pub ref_line : List (List ℕ) → Result Line LineFault
 ref_line rest = asked_of (λ name. lines.Ref name) (only rest)
+
+-- `timeout C`
+abbrev pub timeout_line : List (List ℕ) → Result Line LineFault
+timeout_line rest = asked_of (λ name. lines.Timeout name) (only rest)
 
 -- a member by its group's name and its host's number
 abbrev pub member_at : List ℕ → Option ℕ → Result Line LineFault
@@ -235,6 +265,105 @@ restart_of (Some host) = Ok (lines.Restart host)
 abbrev pub restart_line : List (List ℕ) → Result Line LineFault
 restart_line rest = restart_of (only_host rest)
 
+-- a member by its group's name and its host's number
+abbrev pub grow_at : List ℕ → Option ℕ → Result Line LineFault
+grow_at group None = Err Syntax
+grow_at group (Some host) = if is_script_name group then Ok (lines.Grow group host) else Err Syntax
+
+-- `grow G H`
+abbrev pub grow_line : List (List ℕ) → Result Line LineFault
+grow_line [] = Err Syntax
+grow_line (group ∷ rest) = grow_at group (only_host rest)
+
+-- `delete G`
+abbrev pub delete_line : List (List ℕ) → Result Line LineFault
+delete_line rest = asked_of (λ name. lines.Delete name) (only rest)
+
+-- a group by these criteria, if words say them all, and of a style that is built
+abbrev pub created : List ℕ → KindWord → Option (List Property) → Result Line LineFault
+created name kind None = Err Syntax
+created name kind (Some criteria) = if list_any is_later criteria then Err Later else Ok (lines.Create name kind criteria)
+
+-- the same of a kind
+abbrev pub create_of : List ℕ → Option KindWord → Option (List Property) → Result Line LineFault
+create_of name None criteria = Err Syntax
+create_of name (Some kind) criteria = created name kind criteria
+
+-- `create G KIND P=V..`
+abbrev pub create_line : List (List ℕ) → Result Line LineFault
+create_line [] = Err Syntax
+create_line (name ∷ []) = Err Syntax
+create_line (name ∷ kind ∷ criteria) = if is_script_name name then create_of name (kind_of kind) (each criterion criteria) else Err Syntax
+
+-- a level, and the words behind it
+pub record LevelWords : Type 0 where
+  pub level : Level
+  pub rest : List (List ℕ)
+
+-- the level of a kind
+abbrev pub type_level : List (List ℕ) → Option LevelWords
+type_level [] = None
+type_level (kind ∷ rest) = option_map (λ kind. record { level = levels.Type kind; rest = rest }) (kind_of kind)
+
+-- the level that the first words name: `default`, or `type KIND`
+abbrev pub level_of : List (List ℕ) → Option LevelWords
+level_of [] = None
+level_of (word ∷ rest) =
+    if bytes_eq word (codes "default") then Some (record { level = levels.Default; rest = rest })
+    else (if bytes_eq word (codes "type") then type_level rest
+    else None)
+
+-- a line that sets a property, but to a style that isn't built
+abbrev pub set_of : (Property → Line) → Option Property → Result Line LineFault
+set_of line None = Err Syntax
+set_of line (Some property) = if is_later property then Err Later else Ok (line property)
+
+-- `set default P V`, `set type KIND P V`
+abbrev pub set_at : Option LevelWords → Result Line LineFault
+set_at None = Err Syntax
+set_at (Some at) = set_of (λ property. lines.Set at.level property) (property_said at.rest)
+
+-- `set group G P V`, behind `group`
+abbrev pub set_group : List (List ℕ) → Result Line LineFault
+set_group [] = Err Syntax
+set_group (group ∷ rest) =
+    if is_script_name group then set_of (λ property. lines.SetGroup group property) (property_said rest) else Err Syntax
+
+-- `set ..`
+abbrev pub set_line : List (List ℕ) → Result Line LineFault
+set_line [] = Err Syntax
+set_line (place ∷ rest) = if bytes_eq place (codes "group") then set_group rest else set_at (level_of (place ∷ rest))
+
+-- a line that names a property
+abbrev pub named_of : (List ℕ → Line) → Option (List ℕ) → Result Line LineFault
+named_of line None = Err Syntax
+named_of line (Some name) = if is_property_name name then Ok (line name) else Err Syntax
+
+-- `unset default P`, `unset type KIND P`
+abbrev pub unset_at : Option LevelWords → Result Line LineFault
+unset_at None = Err Syntax
+unset_at (Some at) = named_of (λ name. lines.Unset at.level name) (only at.rest)
+
+-- `unset ..`
+abbrev pub unset_line : List (List ℕ) → Result Line LineFault
+unset_line rest = unset_at (level_of rest)
+
+-- `get default P`, `get type KIND P`
+abbrev pub get_at : Option LevelWords → Result Line LineFault
+get_at None = Err Syntax
+get_at (Some at) = named_of (λ name. lines.Get at.level name) (only at.rest)
+
+-- `get group G P`, behind `group`
+abbrev pub get_group : List (List ℕ) → Result Line LineFault
+get_group [] = Err Syntax
+get_group (group ∷ rest) =
+    if is_script_name group then named_of (λ name. lines.GetGroup group name) (only rest) else Err Syntax
+
+-- `get ..`
+abbrev pub get_line : List (List ℕ) → Result Line LineFault
+get_line [] = Err Syntax
+get_line (place ∷ rest) = if bytes_eq place (codes "group") then get_group rest else get_at (level_of (place ∷ rest))
+
 -- the line of each first word that is built
 abbrev pub line_of_verb : Option Verb → List (List ℕ) → Result Line LineFault
 line_of_verb None rest = Err Syntax
@@ -242,6 +371,8 @@ line_of_verb (Some verbs.Hosts) rest = hosts_line rest
 line_of_verb (Some verbs.Group) rest = group_line rest
 line_of_verb (Some verbs.Client) rest = client_line rest
 line_of_verb (Some verbs.Call) rest = call_line rest
+line_of_verb (Some verbs.Bind) rest = bind_line rest
+line_of_verb (Some verbs.Timeout) rest = timeout_line rest
 line_of_verb (Some verbs.Deliver) rest = deliver_line rest
 line_of_verb (Some verbs.Tick) rest = tick_line rest
 line_of_verb (Some verbs.Show) rest = show_line rest
@@ -253,6 +384,12 @@ line_of_verb (Some verbs.Inject) rest = inject_line rest
 line_of_verb (Some (verbs.Change change)) rest = change_line change rest
 line_of_verb (Some verbs.Crash) rest = crash_line rest
 line_of_verb (Some verbs.Restart) rest = restart_line rest
+line_of_verb (Some verbs.Create) rest = create_line rest
+line_of_verb (Some verbs.Set) rest = set_line rest
+line_of_verb (Some verbs.Unset) rest = unset_line rest
+line_of_verb (Some verbs.Get) rest = get_line rest
+line_of_verb (Some verbs.Grow) rest = grow_line rest
+line_of_verb (Some verbs.Delete) rest = delete_line rest
 
 -- the line of a first word and the words behind it
 abbrev pub line_of : List ℕ → List (List ℕ) → Result Line LineFault

@@ -1,18 +1,22 @@
 -- The table of script lines: which words spell which line, one row for each line.
-use Rattle.std.specs.Prelude.{◌≡◌, ℕ, ◌<◌, ◌≤◌, ◌^◌, true, List, [], ◌∷◌, codes, Some}
-use Rattle.std.specs.List.{AllZip}
+use Rattle.std.specs.Prelude.{◌≡◌, ℕ, ◌<◌, ◌≤◌, ◌^◌, true, false, List, [], ◌∷◌, ◌++◌, codes, Some, None}
+use Rattle.std.specs.List.{All, AllZip}
 use Rattle.ft_base.specs.declared.decisions.Stop.{Stop}
 use Rattle.ft_base.specs.declared.decisions.Stop.TheVariants.{Never, AfterAppend, AfterExecute}
 use Rattle.ft_base.specs.declared.views.Style.TheVariants.{Cold}
 use Rattle.fault_script.specs.Words.{is_script_name, is_operation}
 use Rattle.fault_script.specs.Numbers.{number, capped}
 use Rattle.fault_script.specs.Arguments.{octets_of}
+use Rattle.fault_script.specs.Properties.{is_property_name, equals_place, is_later}
+use Rattle.property_manager.specs.declared.settings.Property.{Property}
 use Rattle.fault_script.specs.declared.lines.KindWord.{KindWord}
 use Rattle.fault_script.specs.declared.lines.KindWord.TheVariants.{Account, Store, Queue}
 use Rattle.fault_script.specs.declared.lines.MemberChange.{MemberChange}
 use Rattle.fault_script.specs.declared.lines.MemberChange.TheVariants.{Add, Remove, Primary, Report}
+use Rattle.fault_script.specs.declared.lines.Level.{Level}
+use Rattle.fault_script.specs.declared.lines.Level.TheVariants as levels
 use Rattle.fault_script.specs.declared.lines.Line.{Line}
-use Rattle.fault_script.specs.declared.lines.Line.TheVariants.{Hosts, Group, Client, Call, Deliver, Tick, Show, Locations, Id, Ref, MemberRef, Inject, Change, Crash, Restart}
+use Rattle.fault_script.specs.declared.lines.Line.TheVariants.{Hosts, Group, Client, Call, Bind, Timeout, Deliver, Tick, Show, Locations, Id, Ref, MemberRef, Inject, Change, Crash, Restart, Create, Set, SetGroup, Unset, Get, GetGroup, Grow, Delete}
 
 -- a word is a number, which no more than 64 bits keep
 abbrev pub IsNumber : List ℕ → ℕ → Type 0
@@ -37,6 +41,21 @@ change_word Remove = codes "remove"
 change_word Primary = codes "primary"
 change_word Report = codes "report"
 
+-- a word is `P=V`, with no `=` in P
+abbrev pub IsCriterion : List ℕ → Property → Type 0
+IsCriterion word property =
+    (word ≡ property.name ++ (codes "=" ++ property.value.0))
+    × (is_property_name property.name ≡ true) × (equals_place property.name ≡ None)
+
+-- the style that it asks for, if it does, is built
+abbrev pub IsBuilt : Property → Type 0
+IsBuilt property = is_later property ≡ false
+
+-- the words of a level
+abbrev pub level_words : Level → List (List ℕ)
+level_words levels.Default = codes "default" ∷ []
+level_words (levels.Type kind) = codes "type" ∷ kind_word kind ∷ []
+
 -- the words of each line
 abbrev pub Spells : List (List ℕ) → Line → Type 0
 Spells words (Hosts count) =
@@ -48,6 +67,9 @@ Spells words (Client name) = (words ≡ codes "client" ∷ name ∷ []) × (is_s
 Spells words (Call client group op rest) =
     (words ≡ codes "call" ∷ client ∷ group ∷ op ∷ rest)
     × (is_script_name client ≡ true) × (is_script_name group ≡ true) × (is_operation op ≡ true)
+Spells words (Bind client group) =
+    (words ≡ codes "bind" ∷ client ∷ group ∷ []) × (is_script_name client ≡ true) × (is_script_name group ≡ true)
+Spells words (Timeout name) = (words ≡ codes "timeout" ∷ name ∷ []) × (is_script_name name ≡ true)
 Spells words (Deliver message stop) =
     (digits : List ℕ) × (words ≡ codes "deliver" ∷ digits ∷ stop_words stop) × IsNumber digits message × (1 ≤ message)
 Spells words (Tick count) =
@@ -66,3 +88,21 @@ Spells words (Change change group host) =
     × (is_script_name group ≡ true) × IsNumber digits host
 Spells words (Crash host) = (digits : List ℕ) × (words ≡ codes "crash" ∷ digits ∷ []) × IsNumber digits host
 Spells words (Restart host) = (digits : List ℕ) × (words ≡ codes "restart" ∷ digits ∷ []) × IsNumber digits host
+Spells words (Create name kind criteria) =
+    (given : List (List ℕ)) × (words ≡ codes "create" ∷ name ∷ kind_word kind ∷ given)
+    × (is_script_name name ≡ true) × AllZip IsCriterion given criteria × All IsBuilt criteria
+Spells words (Set level property) =
+    (words ≡ codes "set" ∷ level_words level ++ property.name ∷ property.value.0 ∷ [])
+    × (is_property_name property.name ≡ true) × IsBuilt property
+Spells words (SetGroup group property) =
+    (words ≡ codes "set" ∷ codes "group" ∷ group ∷ property.name ∷ property.value.0 ∷ [])
+    × (is_script_name group ≡ true) × (is_property_name property.name ≡ true) × IsBuilt property
+Spells words (Unset level name) =
+    (words ≡ codes "unset" ∷ level_words level ++ name ∷ []) × (is_property_name name ≡ true)
+Spells words (Get level name) =
+    (words ≡ codes "get" ∷ level_words level ++ name ∷ []) × (is_property_name name ≡ true)
+Spells words (GetGroup group name) =
+    (words ≡ codes "get" ∷ codes "group" ∷ group ∷ name ∷ []) × (is_script_name group ≡ true) × (is_property_name name ≡ true)
+Spells words (Grow group host) =
+    (digits : List ℕ) × (words ≡ codes "grow" ∷ group ∷ digits ∷ []) × (is_script_name group ≡ true) × IsNumber digits host
+Spells words (Delete name) = (words ≡ codes "delete" ∷ name ∷ []) × (is_script_name name ≡ true)

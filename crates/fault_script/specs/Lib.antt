@@ -1,5 +1,6 @@
 pub mod Words
 pub mod Numbers
+pub mod Properties
 pub mod Faults
 pub mod Forms
 pub mod Grammar

@@ -1,5 +1,5 @@
 -- The words of a line, and what a word can be beside a number.
-use Rattle.std.specs.Prelude.{ℕ, ◌==◌, ◌&&◌, ◌||◌, not, Bool, nat_le, List, [], ◌∷◌, length, map, filter, slice_index, Option, Some, None, is_none}
+use Rattle.std.specs.Prelude.{ℕ, ◌==◌, ◌&&◌, ◌||◌, not, Bool, nat_le, List, [], ◌∷◌, length, map, filter, slice_index, Option, Some, None, is_none, option_map, option_and_then}
 use Rattle.std.specs.List.{slice_split, list_all}
 use Rattle.std.specs.Char.{is_ascii_alphabetic, is_ascii_alphanumeric}
 use Rattle.std.specs.Borrow.{Bor}
@@ -37,6 +37,11 @@ is_operation word = is_none (name_refusal word)
 -- the texts of borrowed words
 abbrev pub texts : List (Bor (List ℕ)) → List (List ℕ)
 texts words = map (λ word. word.now) words
+
+-- what each of some words is, in order, if each of them is something
+abbrev pub each : {X : Type 0} → (List ℕ → Option X) → List (List ℕ) → Option (List X)
+each what [] = Some []
+each what (word ∷ words) = option_and_then (λ value. option_map (λ values. value ∷ values) (each what words)) (what word)
 
 -- the one word of a list that has no other
 abbrev pub only : List (List ℕ) → Option (List ℕ)

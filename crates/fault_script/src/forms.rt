@@ -3,11 +3,11 @@ ghost use Rattle.fault_script.specs.Words.{texts, only, is_script_name, is_opera
 ghost use Rattle.fault_script.specs.Numbers.{host_numbers};
 ghost use Rattle.fault_script.specs.Faults.{IsAnswer};
 ghost use Rattle.fault_script.specs.Arguments.{IsFound};
-ghost use Rattle.fault_script.specs.Forms.{only_host, hosts_line, kind_of, style_of, built_group, group_of, group_line, client_line, call_line, stop_named, stop_of, deliver_line, tick_line, show_line, locations_line, id_line, ref_line, member_line, inject_line, change_line, crash_line, restart_line};
+ghost use Rattle.fault_script.specs.Forms.{only_host, hosts_line, kind_of, style_of, built_group, group_of, group_line, client_line, call_line, bind_line, timeout_line, stop_named, stop_of, deliver_line, tick_line, show_line, locations_line, id_line, ref_line, member_line, inject_line, change_line, crash_line, restart_line, grow_line, delete_line};
 
 use crate::arguments::read_octets;
 use crate::lines::{HostNumbers, KindWord, Line, LineFault, MemberChange, Words};
-use crate::names::{is_operation, read_name, read_operation};
+use crate::names::{is_operation, read_any_name, read_name};
 use crate::numerals::{read_host, read_positive};
 use crate::splitting::{is_script_name, only, split_first};
 use decimal_numbers::read_number;
@@ -92,6 +92,19 @@ pub(crate) fn read_ref(alloc: Global, words: &[&[u8]]) -> Result<Line, LineFault
     }
 }
 
+/// `delete G`, from the words behind the first.
+pub(crate) fn read_delete(alloc: Global, words: &[&[u8]]) -> Result<Line, LineFault>
+    ensures { IsAnswer result (delete_line (texts words.now)) }
+{
+    let Some(word) = only(words) else {
+        return Err(LineFault::Syntax);
+    };
+    match read_name(alloc, word) {
+        Ok(name) => Ok(Line::Delete(name)),
+        Err(fault) => Err(fault),
+    }
+}
+
 /// `tick N`, from the words behind the first.
 pub(crate) fn read_tick(words: &[&[u8]]) -> Result<Line, LineFault>
     ensures { result ≡ tick_line (texts words.now) }
@@ -105,7 +118,8 @@ pub(crate) fn read_tick(words: &[&[u8]]) -> Result<Line, LineFault>
     }
 }
 
-fn find_kind(word: &[u8]) -> Option<KindWord>
+/// The kind of servant that a word names.
+pub(crate) fn find_kind(word: &[u8]) -> Option<KindWord>
     ensures { result ≡ kind_of word.now }
 {
     if word == b"account".as_slice() {
@@ -228,7 +242,7 @@ fn build_call(
 {
     let client = read_name(alloc, client)?;
     let group = read_name(alloc, group)?;
-    let op = read_operation(alloc, op)?;
+    let op = read_any_name(alloc, op)?;
     match Words::of(alloc, rest) {
         Ok(words) => Ok(Line::Call {
             client,
@@ -257,6 +271,46 @@ pub(crate) fn read_call(alloc: Global, words: &[&[u8]]) -> Result<Line, LineFaul
         build_call(alloc, client, group, op, rest)
     } else {
         Err(LineFault::Syntax)
+    }
+}
+
+fn build_bind(alloc: Global, client: &[u8], group: &[u8]) -> Result<Line, LineFault>
+    requires client_named { is_script_name client.now ≡ true }
+    requires group_named { is_script_name group.now ≡ true }
+    ensures { IsAnswer result (Ok (Line.Bind client.now group.now)) }
+{
+    let client = read_name(alloc, client)?;
+    let group = read_name(alloc, group)?;
+    Ok(Line::Bind { client, group })
+}
+
+/// `bind C G`, from the words behind the first.
+pub(crate) fn read_bind(alloc: Global, words: &[&[u8]]) -> Result<Line, LineFault>
+    ensures { IsAnswer result (bind_line (texts words.now)) }
+{
+    let Some((client, rest)) = split_first(words) else {
+        return Err(LineFault::Syntax);
+    };
+    let Some(group) = only(rest) else {
+        return Err(LineFault::Syntax);
+    };
+    if is_script_name(client) && is_script_name(group) {
+        build_bind(alloc, client, group)
+    } else {
+        Err(LineFault::Syntax)
+    }
+}
+
+/// `timeout C`, from the words behind the first.
+pub(crate) fn read_timeout(alloc: Global, words: &[&[u8]]) -> Result<Line, LineFault>
+    ensures { IsAnswer result (timeout_line (texts words.now)) }
+{
+    let Some(word) = only(words) else {
+        return Err(LineFault::Syntax);
+    };
+    match read_name(alloc, word) {
+        Ok(name) => Ok(Line::Timeout(name)),
+        Err(fault) => Err(fault),
     }
 }
 
@@ -323,7 +377,8 @@ pub(crate) fn read_inject(alloc: Global, words: &[&[u8]]) -> Result<Line, LineFa
     }
 }
 
-fn read_only_host(words: &[&[u8]]) -> Option<u64>
+/// The one host that words name by its number.
+pub(crate) fn read_only_host(words: &[&[u8]]) -> Option<u64>
     ensures { result ≡ only_host (texts words.now) }
 {
     let word = only(words)?;
@@ -386,6 +441,22 @@ pub(crate) fn read_member(alloc: Global, words: &[&[u8]]) -> Result<Line, LineFa
     };
     match read_name(alloc, group) {
         Ok(group) => Ok(Line::MemberRef { group, host }),
+        Err(fault) => Err(fault),
+    }
+}
+
+/// `grow G H`, from the words behind the first.
+pub(crate) fn read_grow(alloc: Global, words: &[&[u8]]) -> Result<Line, LineFault>
+    ensures { IsAnswer result (grow_line (texts words.now)) }
+{
+    let Some((group, rest)) = split_first(words) else {
+        return Err(LineFault::Syntax);
+    };
+    let Some(host) = read_only_host(rest) else {
+        return Err(LineFault::Syntax);
+    };
+    match read_name(alloc, group) {
+        Ok(group) => Ok(Line::Grow { group, host }),
         Err(fault) => Err(fault),
     }
 }

@@ -2,17 +2,21 @@
 #![tactic(auto)]
 
 mod arguments;
+mod criteria;
 mod forms;
 mod lines;
 mod names;
 mod numerals;
 mod options;
 mod reading;
+mod settings;
 mod splitting;
 mod verbs;
 
 pub use arguments::{CallWords, call_words};
-pub use lines::{HostNumbers, KindWord, LimitName, Line, LineFault, MemberChange, Words};
+pub use lines::{
+    Criteria, HostNumbers, KindWord, Level, LimitName, Line, LineFault, MemberChange, Words,
+};
 pub use reading::read_line;
 
 #[cfg(test)]

@@ -1,6 +1,7 @@
 ghost use Rattle.std.specs.Prelude.{◌≡◌, ℕ, ◌++◌, List, codes, IfOk};
 
 use ft_base::{Bytes, Name, NoMemory, Stop, Style};
+use property_manager::Property;
 use std::alloc::Global;
 use std::marker::Model;
 
@@ -34,6 +35,30 @@ pub enum KindWord {
     Account,
     Store,
     Queue,
+}
+
+/// At which level a property is set for groups that are made from now on.
+#[derive(Clone, Copy, Debug, PartialEq, Eq)]
+pub enum Level {
+    /// For all of them.
+    Default,
+    /// For those of a kind.
+    Type(KindWord),
+}
+
+/// The criteria of a group that is made: properties in their order.
+#[derive(Debug, Drop)]
+pub struct Criteria {
+    properties: Vec<Property>,
+}
+
+impl Model for Criteria {
+    ghost use Rattle.std.specs.Prelude.{List};
+    ghost use Rattle.property_manager.specs.declared.settings.Property.{Property};
+
+    ghost Value = { List Property };
+
+    ghost view = { λ c. c.properties.items };
 }
 
 /// What a line does to a group's members.
@@ -71,6 +96,13 @@ pub enum Line {
         op: Name,
         words: Words,
     },
+    /// `bind C G`: the client goes by the group's newest reference from now on.
+    Bind {
+        client: Name,
+        group: Name,
+    },
+    /// `timeout C`: the client's last attempt gets no reply.
+    Timeout(Name),
     /// `deliver K`: message K arrives. Behind it `crash append` or `crash execute`: the host stops in
     /// the middle of what it does.
     Deliver {
@@ -107,6 +139,44 @@ pub enum Line {
     Crash(u64),
     /// `restart H`: the host is up again.
     Restart(u64),
+    /// `create G KIND P=V..`: a group by these criteria. None gives it a style that isn't built.
+    Create {
+        name: Name,
+        kind: KindWord,
+        criteria: Criteria,
+    },
+    /// `set default P V`, `set type KIND P V`: the property of groups that are made from now on.
+    Set {
+        level: Level,
+        property: Property,
+    },
+    /// `set group G P V`: the property of this group.
+    SetGroup {
+        group: Name,
+        property: Property,
+    },
+    /// `unset default P`, `unset type KIND P`: the level says nothing of the property any more.
+    Unset {
+        level: Level,
+        name: Name,
+    },
+    /// `get default P`, `get type KIND P`: prints the property of groups that are made from now on.
+    Get {
+        level: Level,
+        name: Name,
+    },
+    /// `get group G P`: prints the property of this group.
+    GetGroup {
+        group: Name,
+        name: Name,
+    },
+    /// `grow G H`: a new member on the host.
+    Grow {
+        group: Name,
+        host: u64,
+    },
+    /// `delete G`: the group is no more.
+    Delete(Name),
 }
 
 /// What there are only so many of.
@@ -200,6 +270,22 @@ impl HostNumbers {
         ensures { result.now ≡ self.now }
     {
         self.numbers.as_slice()
+    }
+}
+
+impl Criteria {
+    /// These criteria.
+    pub fn from_vec(properties: Vec<Property>) -> Criteria
+        ensures { result ≡ properties.items }
+    {
+        Criteria { properties }
+    }
+
+    /// The properties themselves.
+    pub fn as_slice(&self) -> &[Property]
+        ensures { result.now ≡ self.now }
+    {
+        self.properties.as_slice()
     }
 }
 

@@ -21,8 +21,8 @@ pub(crate) fn is_operation(word: &[u8]) -> bool
     !word.is_empty() && word.len() <= NAME_LIMIT && first_zero(word).is_none()
 }
 
-/// An operation: any word that can be a name.
-pub(crate) fn read_operation(alloc: Global, word: &[u8]) -> Result<Name, LineFault>
+/// An operation, or a property's name: any word that can be a name.
+pub(crate) fn read_any_name(alloc: Global, word: &[u8]) -> Result<Name, LineFault>
     ensures { IsAnswer result (if is_operation word.now then Ok word.now else Err LineFault.Syntax) }
 {
     if word.len() > NAME_LIMIT {
@@ -40,7 +40,7 @@ pub(crate) fn read_name(alloc: Global, word: &[u8]) -> Result<Name, LineFault>
     ensures { IsAnswer result (if is_script_name word.now then Ok word.now else Err LineFault.Syntax) }
 {
     if is_script_name(word) {
-        read_operation(alloc, word)
+        read_any_name(alloc, word)
     } else {
         Err(LineFault::Syntax)
     }

@@ -5,11 +5,14 @@ ghost use Rattle.fault_script.specs.Forms.{line_of, parse_words, parse};
 ghost use Rattle.fault_script.specs.Grammar.{Spells};
 ghost use Rattle.fault_script.specs.declared.lines.Line.{Line};
 
+use crate::criteria::read_create;
 use crate::forms::{
-    read_call, read_change, read_client, read_crash, read_deliver, read_group, read_hosts, read_id,
-    read_inject, read_locations, read_member, read_ref, read_restart, read_show, read_tick,
+    read_bind, read_call, read_change, read_client, read_crash, read_delete, read_deliver,
+    read_group, read_grow, read_hosts, read_id, read_inject, read_locations, read_member, read_ref,
+    read_restart, read_show, read_tick, read_timeout,
 };
 use crate::lines::{LimitName, Line, LineFault};
+use crate::settings::{read_get, read_set, read_unset};
 use crate::splitting::{is_comment, split_first, split_words};
 use crate::verbs::{Verb, find_verb, is_unbuilt};
 use std::alloc::Global;
@@ -29,6 +32,8 @@ fn read_form(alloc: Global, first: &[u8], rest: &[&[u8]]) -> Result<Line, LineFa
         Some(Verb::Group) => read_group(alloc, rest),
         Some(Verb::Client) => read_client(alloc, rest),
         Some(Verb::Call) => read_call(alloc, rest),
+        Some(Verb::Bind) => read_bind(alloc, rest),
+        Some(Verb::Timeout) => read_timeout(alloc, rest),
         Some(Verb::Deliver) => read_deliver(rest),
         Some(Verb::Tick) => read_tick(rest),
         Some(Verb::Show) => read_show(alloc, rest),
@@ -40,6 +45,12 @@ fn read_form(alloc: Global, first: &[u8], rest: &[&[u8]]) -> Result<Line, LineFa
         Some(Verb::Change(change)) => read_change(alloc, change, rest),
         Some(Verb::Crash) => read_crash(rest),
         Some(Verb::Restart) => read_restart(rest),
+        Some(Verb::Create) => read_create(alloc, rest),
+        Some(Verb::Set) => read_set(alloc, rest),
+        Some(Verb::Unset) => read_unset(alloc, rest),
+        Some(Verb::Get) => read_get(alloc, rest),
+        Some(Verb::Grow) => read_grow(alloc, rest),
+        Some(Verb::Delete) => read_delete(alloc, rest),
     }
 }
 

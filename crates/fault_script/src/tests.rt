@@ -1,7 +1,9 @@
 use crate::{
-    CallWords, HostNumbers, KindWord, Line, LineFault, MemberChange, Words, call_words, read_line,
+    CallWords, Criteria, HostNumbers, KindWord, Level, Line, LineFault, MemberChange, Words,
+    call_words, read_line,
 };
 use ft_base::{Par, Signature, Stop};
+use property_manager::Property;
 use std::alloc::Global;
 use std::process::Abort;
 use std::test::Fail;
@@ -31,6 +33,13 @@ fn change_form(change: MemberChange) -> &'static [u8] {
     }
 }
 
+fn level_form(level: Level, default: &'static [u8], of_type: &'static [u8]) -> &'static [u8] {
+    match level {
+        Level::Default => default,
+        Level::Type(_) => of_type,
+    }
+}
+
 fn form(line: &Line) -> &'static [u8] {
     match line {
         Line::Hosts(_) => b"hosts",
@@ -47,6 +56,11 @@ fn form(line: &Line) -> &'static [u8] {
             op: _,
             words: _,
         } => b"call",
+        Line::Bind {
+            client: _,
+            group: _,
+        } => b"bind",
+        Line::Timeout(_) => b"timeout",
         Line::Deliver { number: _, stop } => stop_form(*stop),
         Line::Tick(_) => b"tick",
         Line::Show(_) => b"show",
@@ -62,6 +76,21 @@ fn form(line: &Line) -> &'static [u8] {
         } => change_form(*change),
         Line::Crash(_) => b"crash",
         Line::Restart(_) => b"restart",
+        Line::Create {
+            name: _,
+            kind: _,
+            criteria: _,
+        } => b"create",
+        Line::Set { level, property: _ } => level_form(*level, b"set default", b"set type"),
+        Line::SetGroup {
+            group: _,
+            property: _,
+        } => b"set group",
+        Line::Unset { level, name: _ } => level_form(*level, b"unset default", b"unset type"),
+        Line::Get { level, name: _ } => level_form(*level, b"get default", b"get type"),
+        Line::GetGroup { group: _, name: _ } => b"get group",
+        Line::Grow { group: _, host: _ } => b"grow",
+        Line::Delete(_) => b"delete",
     }
 }
 
@@ -76,7 +105,7 @@ fn shown(alloc: Global, line: &[u8]) -> &'static [u8] {
 }
 
 // How lines read, with a bar between each two.
-const LINES: [(&str, &str); 25] = [
+const LINES: [(&str, &str); 38] = [
     ("nothing", "| \t\r|# frob|\r #frob"),
     ("hosts", "hosts 7|hosts\t0007\r|hosts 99999999999999999999"),
     (
@@ -93,6 +122,8 @@ const LINES: [(&str, &str); 25] = [
         "call",
         "call c0 bank deposit 700|call c0 bank deposit|call c0 bank nover=1 x y z",
     ),
+    ("bind", "bind c g|bind c-6.x_Z\tc-6.x_Z\r"),
+    ("timeout", "timeout c|timeout  g-2.x_Z "),
     (
         "deliver",
         "deliver 1|deliver 0002|deliver 00000000000000000001",
@@ -116,10 +147,41 @@ const LINES: [(&str, &str); 25] = [
     ("crash", "crash 0|crash 99999999999999999999"),
     ("restart", "restart 1"),
     (
+        "create",
+        concat!(
+            "create g account|create g.x queue p=v q==w=|create g store p=",
+            "|create g store org.omg.ft.ReplicationStyle=STATELESS org.omg.ft.ReplicationStyle=ACTIVE=",
+            "|create g store org.omg.ft.ReplicationStyl=ACTIVE",
+        ),
+    ),
+    (
+        "set default",
+        "set default p v|set default default =|set default org.omg.ft.ReplicationStyle COLD_PASSIVE",
+    ),
+    (
+        "set type",
+        "set type store p v|set type queue org.omg.ft.ReplicationStyle active",
+    ),
+    (
+        "set group",
+        "set group g p v|set group group org.omg.ft.MembershipStyle ACTIVE",
+    ),
+    ("unset default", "unset default p"),
+    ("unset type", "unset type account p"),
+    ("get default", "get default p=v"),
+    ("get type", "get type store type"),
+    ("get group", "get group g p"),
+    ("grow", "grow g 0|grow g 99999999999999999999"),
+    ("delete", "delete g"),
+    (
         "later",
         concat!(
-            "group g account warm 0|group g store warm|group g queue active 1 2 3|bind c1|logfail g|",
-            "set frob|grow",
+            "group g account warm 0|group g store warm|group g queue active 1 2 3|poll c1|logfail g|",
+            "set default org.omg.ft.ReplicationStyle ACTIVE|",
+            "set type queue org.omg.ft.ReplicationStyle WARM_PASSIVE|",
+            "set group g org.omg.ft.ReplicationStyle ACTIVE|",
+            "create g store org.omg.ft.ReplicationStyle=ACTIVE|",
+            "create g store p=v org.omg.ft.ReplicationStyle=WARM_PASSIVE p=",
         ),
     ),
     (
@@ -129,6 +191,7 @@ const LINES: [(&str, &str); 25] = [
             "group gX account cold x|group g store warm x|group 1g store cold 0|group g frob cold 0|",
             "group g account hot 0|group g account|group g store cold 0 x|group 1g queue active|",
             "group g queue warm 000000000000000000000|group|client _c|client c/d|client|client a b|",
+            "bind|bind c|bind c g g|bind 0 g|bind c 0|Bind c g|timeout|timeout 0|timeout c c|",
             "call c0 bank|call 0c bank deposit 700|call c0 - deposit 700|deliver 0|",
             "deliver 000000000000000000001|deliver 0 crash append|deliver 1 crash|deliver 1 crash frob|",
             "deliver 1 crash append 2|deliver 1 append|deliver 1 frob execute|deliver x crash append|",
@@ -137,7 +200,16 @@ const LINES: [(&str, &str); 25] = [
             "inject 000000000000000000000 00|inject 0 4|inject 0 47494f5|inject 0 4g|inject 0 0x00|",
             "inject 0 --|inject x 00|inject -1 00|inject 0|inject|inject 0 00 00|Inject 0 00|",
             "add|add g|add g x|add 0 g|add _g 0|remove g 0 1|primary g -1|report g|Add g 0|crash|crash x|",
-            "crash 1 2|restart|restart -1|restart 000000000000000000000",
+            "crash 1 2|restart|restart -1|restart 000000000000000000000|",
+            "create|create g|create 0 store|create g frob|create g store p|create g store =v|",
+            "create g store p=v q|create g store p\0=v|create 0 store org.omg.ft.ReplicationStyle=ACTIVE|",
+            "create g store org.omg.ft.ReplicationStyle=ACTIVE q|set|set frob|set default|set default p|",
+            "set default p v w|set default p\0 v|set type|set type frob p v|set type store p|set group g p|",
+            "set group 0 p v|set group 0 org.omg.ft.ReplicationStyle ACTIVE|",
+            "set default org.omg.ft.ReplicationStyle ACTIVE 1|unset|unset default|unset default p q|",
+            "unset default \0|unset type p|unset type frob p|unset group g p|get|get default|get default p q|",
+            "get type store|get group g|get group 0 p|get group g p q|get frob p|grow|grow g|grow g x|",
+            "grow 0 0|grow g 0 0|delete|delete 0|delete g g",
         ),
     ),
 ];
@@ -163,12 +235,14 @@ type Limit = (
 );
 
 // Lines, words and names at their limits.
-const LIMITS: [Limit; 20] = [
+const LIMITS: [Limit; 24] = [
     ("show g", " ", 4090, "", "show", "limit line"),
     ("#", "\r", 4095, "", "nothing", "limit line"),
     ("", " ", 4096, "", "nothing", "limit line"),
     ("", "frob ", 819, "", "syntax", "limit line"),
-    ("bind", " x", 2046, "", "later", "limit line"),
+    ("poll", " x", 2046, "", "later", "limit line"),
+    ("bind ", "c", 64, " g", "bind", "syntax"),
+    ("bind c ", "g", 64, "", "bind", "syntax"),
     ("crash", " x", 2045, "", "syntax", "limit line"),
     ("group g queue cold", " 0", 2039, "", "queue", "limit line"),
     ("call c g op", " w", 2042, "", "call", "limit line"),
@@ -184,6 +258,8 @@ const LIMITS: [Limit; 20] = [
     ("call c ", "g", 64, " op", "call", "syntax"),
     ("call c g ", "=", 255, "", "call", "syntax"),
     ("deliver ", "0", 19, "1", "deliver", "syntax"),
+    ("get default ", "p", 255, "", "get default", "syntax"),
+    ("create g store ", "p", 255, "==", "create", "syntax"),
 ];
 
 fn check_limit(rt: &impl Abort, alloc: Global, row: &Limit) -> Result<(), Fail> {
@@ -512,5 +588,59 @@ fn calls(rt: HostRuntime) -> Result<(), Fail> {
         Ok(call) => assert!(rt; call.args.bytes().is_empty()),
         Err(_) => assert!(rt; false),
     }
+    Ok(())
+}
+
+// Lines that give properties, and the names and values that they give.
+const PROPERTIES: [(&str, &[(&str, &str)]); 4] = [
+    ("create g store", &[]),
+    (
+        "create g store p=v q==w= p=",
+        &[("p", "v"), ("q", "=w="), ("p", "")],
+    ),
+    ("set default p=v \0", &[("p=v", "\0")]),
+    (
+        "set group g org.omg.ft.ReplicationStyle ACTIVE_WITH_VOTING",
+        &[("org.omg.ft.ReplicationStyle", "ACTIVE_WITH_VOTING")],
+    ),
+];
+
+fn is_property(property: &Property, wanted: &(&str, &str)) -> bool {
+    property.name.bytes() == wanted.0.as_bytes() && property.value.0.bytes() == wanted.1.as_bytes()
+}
+
+fn are_properties(properties: &[Property], wanted: &[(&str, &str)]) -> bool {
+    properties.len() == wanted.len()
+        && (0..wanted.len()).all(|i| is_property(&properties[i], &wanted[i]))
+}
+
+fn gives(alloc: Global, text: &str, wanted: &[(&str, &str)]) -> bool {
+    match read_line(alloc, text.as_bytes()) {
+        Ok(
+            Some(
+                Line::Create {
+                    name: _,
+                    kind: _,
+                    criteria,
+                },
+            ),
+        ) => are_properties(criteria.as_slice(), wanted),
+        Ok(Some(Line::Set { level: _, property })) => {
+            wanted.len() == 1 && is_property(&property, &wanted[0])
+        }
+        Ok(Some(Line::SetGroup { group: _, property })) => {
+            wanted.len() == 1 && is_property(&property, &wanted[0])
+        }
+        _ => false,
+    }
+}
+
+#[test]
+fn properties(rt: HostRuntime) -> Result<(), Fail> {
+    for (text, wanted) in PROPERTIES.iter() {
+        assert!(rt; gives(rt.alloc(), *text, *wanted), "{text}");
+    }
+    let none = Criteria::from_vec(Vec::new(rt.alloc()));
+    assert!(rt; none.as_slice().is_empty());
     Ok(())
 }

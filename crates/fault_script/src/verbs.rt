@@ -1,7 +1,7 @@
 ghost use Rattle.std.specs.Prelude.{◌≡◌, ℕ, List};
 ghost use Rattle.std.specs.List.{list_any};
 ghost use Rattle.std.specs.Str.{bytes_eq};
-ghost use Rattle.fault_script.specs.Forms.{change_of, verb, is_unbuilt};
+ghost use Rattle.fault_script.specs.Forms.{change_of, making, verb, is_unbuilt};
 
 use crate::lines::MemberChange;
 
@@ -12,6 +12,8 @@ pub(crate) enum Verb {
     Group,
     Client,
     Call,
+    Bind,
+    Timeout,
     Deliver,
     Tick,
     Show,
@@ -23,6 +25,12 @@ pub(crate) enum Verb {
     Change(MemberChange),
     Crash,
     Restart,
+    Create,
+    Set,
+    Unset,
+    Get,
+    Grow,
+    Delete,
 }
 
 fn find_change(first: &[u8]) -> Option<MemberChange>
@@ -41,6 +49,27 @@ fn find_change(first: &[u8]) -> Option<MemberChange>
     }
 }
 
+/// The line of groups by properties, or of changes of members, that a first word begins.
+fn find_making(first: &[u8]) -> Option<Verb>
+    ensures { result ≡ making first.now }
+{
+    if first == b"create".as_slice() {
+        Some(Verb::Create)
+    } else if first == b"set".as_slice() {
+        Some(Verb::Set)
+    } else if first == b"unset".as_slice() {
+        Some(Verb::Unset)
+    } else if first == b"get".as_slice() {
+        Some(Verb::Get)
+    } else if first == b"grow".as_slice() {
+        Some(Verb::Grow)
+    } else if first == b"delete".as_slice() {
+        Some(Verb::Delete)
+    } else {
+        find_change(first).map(Verb::Change)
+    }
+}
+
 /// The line that a first word begins, of those that are built.
 pub(crate) fn find_verb(first: &[u8]) -> Option<Verb>
     ensures { result ≡ verb first.now }
@@ -53,6 +82,10 @@ pub(crate) fn find_verb(first: &[u8]) -> Option<Verb>
         Some(Verb::Client)
     } else if first == b"call".as_slice() {
         Some(Verb::Call)
+    } else if first == b"bind".as_slice() {
+        Some(Verb::Bind)
+    } else if first == b"timeout".as_slice() {
+        Some(Verb::Timeout)
     } else if first == b"deliver".as_slice() {
         Some(Verb::Deliver)
     } else if first == b"tick".as_slice() {
@@ -74,19 +107,11 @@ pub(crate) fn find_verb(first: &[u8]) -> Option<Verb>
     } else if first == b"restart".as_slice() {
         Some(Verb::Restart)
     } else {
-        find_change(first).map(Verb::Change)
+        find_making(first)
     }
 }
 
-static UNBUILT: [&[u8]; 16] = [
-    b"create",
-    b"set",
-    b"unset",
-    b"get",
-    b"grow",
-    b"delete",
-    b"bind",
-    b"timeout",
+static UNBUILT: [&[u8]; 8] = [
     b"poll",
     b"sweep",
     b"subscribe",

@@ -25,6 +25,8 @@ use Rattle.ft_report.specs.declared.reports.CallEnd.{CallEnd}
 use Rattle.ft_report.specs.declared.reports.CallEnd.TheVariants as ends
 use Rattle.ft_report.specs.declared.reports.Role.{Role}
 use Rattle.ft_report.specs.declared.reports.Role.TheVariants as roles
+use Rattle.ft_report.specs.declared.reports.SettingFault.{SettingFault}
+use Rattle.ft_report.specs.declared.reports.SettingFault.TheVariants as settings
 use Rattle.ft_report.specs.declared.reports.Standing.{Standing}
 use Rattle.ft_report.specs.declared.reports.Standing.TheVariants as standings
 use Rattle.ft_report.specs.declared.reports.ReportLine.{ReportLine}
@@ -136,6 +138,13 @@ refusal_text (refusals.ViewsFull count) = with_number (codes "NO_RESOURCES") cou
 refusal_text refusals.LogFault = codes "PERSIST_STORE"
 refusal_text refusals.NoMemory = codes "NO_MEMORY"
 
+-- why properties, or a new group's criteria, are refused
+abbrev pub setting_text : SettingFault → List ℕ
+setting_text (settings.InvalidProperty place) = with_number (codes "InvalidProperty") place
+setting_text (settings.UnsupportedProperty place) = with_number (codes "UnsupportedProperty") place
+setting_text (settings.InvalidCriteria place) = with_number (codes "InvalidCriteria") place
+setting_text (settings.CannotMeetCriteria initial minimum) = with_numbers (codes "CannotMeetCriteria") initial minimum
+
 -- what a host is in a group
 abbrev pub role_text : Role → List ℕ
 role_text roles.Primary = codes "primary"
@@ -177,6 +186,8 @@ report_text (lines.Group name id) =
     line (codes "group" ∷ name ∷ decimal id.0 ∷ [])
 report_text (lines.View group version members primary) =
     line (codes "view" ∷ group ∷ decimal version.0 ∷ codes "members" ∷ hosts_text members ∷ codes "primary" ∷ host_text primary ∷ [])
+report_text (lines.Deleted group) =
+    line (codes "deleted" ∷ group ∷ [])
 report_text (lines.Attempt message client host id) =
     line (codes "msg" ∷ decimal message ∷ codes "client" ∷ client ∷ codes "to host" ∷ decimal host.0 ∷ codes "request" ∷ decimal id ∷ [])
 report_text (lines.Reply message host client id shown) =
@@ -201,20 +212,30 @@ report_text (lines.Lost message) =
     line (codes "lost" ∷ decimal message ∷ [])
 report_text (lines.UnheardReply message) =
     line (codes "ignored" ∷ decimal message ∷ codes "reply" ∷ [])
+report_text (lines.IgnoredDeleted message) =
+    line (codes "ignored" ∷ decimal message ∷ codes "deleted" ∷ [])
 report_text (lines.Ignored message why) =
     line (codes "ignored" ∷ decimal message ∷ ignored_text why ∷ [])
 report_text (lines.Adopted client group version) =
     line (codes "adopt" ∷ client ∷ group ∷ decimal version.0 ∷ [])
+report_text (lines.Bound client group version) =
+    line (codes "bound" ∷ client ∷ group ∷ decimal version.0 ∷ [])
 report_text (lines.Done client call end) =
     line (codes "done" ∷ client ∷ decimal call ∷ end_text end ∷ [])
 report_text (lines.Busy client) =
     line (codes "busy" ∷ client ∷ [])
+report_text (lines.Idle client) =
+    line (codes "idle" ∷ client ∷ [])
 report_text (lines.Down host) =
     line (codes "down" ∷ decimal host.0 ∷ [])
 report_text (lines.Up host) =
     line (codes "up" ∷ decimal host.0 ∷ [])
 report_text (lines.Refused fault) =
     line (codes "refused" ∷ refusal_text fault ∷ [])
+report_text (lines.RefusedSetting fault) =
+    line (codes "refused" ∷ setting_text fault ∷ [])
+report_text (lines.Property name value) =
+    line (codes "property" ∷ name ∷ value ∷ [])
 report_text (lines.Show group version entries mark time) =
     line (codes "show" ∷ group ∷ codes "view" ∷ decimal version.0 ∷ codes "entries" ∷ decimal entries ∷ codes "mark" ∷ decimal mark ∷ codes "time" ∷ decimal time.0 ∷ [])
 report_text (lines.Member host role standing) =

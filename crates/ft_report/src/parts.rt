@@ -1,10 +1,10 @@
 //! The parts of a line: words and phrases, each as its text.
 ghost use Rattle.std.specs.Prelude.{◌≡◌, ◌++◌, ◌∷◌, [], IfOk, OnOk};
 ghost use Rattle.ft_report.specs.Words.{octets_text, phrase_text};
-ghost use Rattle.ft_report.specs.Report.{completed_text, decision_text, end_text, fault_text, flag_text, ignored_text, kind_text, outcome_text, own_fault, refusal_text, role_text, standing_text, why_text, with_number, with_numbers, with_version, worded_numbers, worth_text};
+ghost use Rattle.ft_report.specs.Report.{completed_text, decision_text, end_text, fault_text, flag_text, ignored_text, kind_text, outcome_text, own_fault, refusal_text, role_text, setting_text, standing_text, why_text, with_number, with_numbers, with_version, worded_numbers, worth_text};
 
 use crate::outcomes::{ReportOutcome, Worth};
-use crate::reports::{CallEnd, Role, Standing};
+use crate::reports::{CallEnd, Role, SettingFault, Standing};
 use crate::words::Word::{Fixed, Made, Number, Signed, Text};
 use crate::words::{octets, phrase, push_phrase};
 use ft_base::{Bytes, Decision, HostNo, Ignored, Name, NoMemory, Version};
@@ -370,6 +370,31 @@ pub fn refusal_bytes(alloc: Global, fault: ManageFault) -> Result<Bytes, NoMemor
         ManageFault::ViewsFull(count) => with_number(alloc, b"NO_RESOURCES", u64::from(count)),
         ManageFault::LogFault => Bytes::of(alloc, b"PERSIST_STORE"),
         ManageFault::NoMemory => Bytes::of(alloc, b"NO_MEMORY"),
+    }
+}
+
+/// Writes why properties, or a new group's criteria, were refused.
+pub fn push_setting(text: &mut Vec<u8>, fault: SettingFault) -> Result<(), NoMemory>
+    ensures { OnOk result (text.new.items ≡ text.old.items ++ setting_text fault) }
+{
+    match fault {
+        SettingFault::InvalidProperty(place) => {
+            push_number(text, b"InvalidProperty", u64::from(place))
+        }
+        SettingFault::UnsupportedProperty(place) => {
+            push_number(text, b"UnsupportedProperty", u64::from(place))
+        }
+        SettingFault::InvalidCriteria(place) => {
+            push_number(text, b"InvalidCriteria", u64::from(place))
+        }
+        SettingFault::CannotMeetCriteria { initial, minimum } => {
+            push_numbers(
+                text,
+                b"CannotMeetCriteria",
+                u64::from(initial),
+                u64::from(minimum),
+            )
+        }
     }
 }
 

@@ -5,10 +5,10 @@ ghost use Rattle.ft_report.specs.Report.{between_hosts, report_text};
 
 use crate::outcomes::ReportOutcome;
 use crate::parts::{
-    ignored_bytes, push_decision, push_end, push_outcome, refusal_bytes, role_bytes,
+    ignored_bytes, push_decision, push_end, push_outcome, push_setting, refusal_bytes, role_bytes,
     standing_bytes, why_bytes, with_version,
 };
-use crate::reports::{CallEnd, ReportLine, Role, Standing};
+use crate::reports::{CallEnd, ReportLine, Role, SettingFault, Standing};
 use crate::words::Word::{Fixed, Host, Made, Number, Text};
 use crate::words::{Word, hosts, octets, phrase, push_line, push_phrase};
 use ft_base::{Bytes, Decision, HostNo, Ignored, Members, Name, NoMemory, Tick, Version};
@@ -356,11 +356,53 @@ fn adopted_line<'a>(
     )
 }
 
+fn bound_line<'a>(
+    text: &mut Vec<u8>,
+    alloc: Global,
+    client: &'a Name,
+    group: &'a Name,
+    version: Version,
+) -> Result<(), NoMemory>
+    ensures { OnOk result (text.new.items ≡ text.old.items ++ report_text (ReportLine.Bound client.now group.now version)) }
+{
+    push_line(
+        text,
+        &[
+            Fixed(b"bound"),
+            Text(client.bytes()),
+            Text(group.bytes()),
+            Number(u64::from(version.0)),
+        ],
+    )
+}
+
 fn refused_line(text: &mut Vec<u8>, alloc: Global, fault: ManageFault) -> Result<(), NoMemory>
     ensures { OnOk result (text.new.items ≡ text.old.items ++ report_text (ReportLine.Refused fault)) }
 {
     let fault = refusal_bytes(alloc, fault)?;
     push_line(text, &[Fixed(b"refused"), Made(fault.bytes())])
+}
+
+fn refused_setting_line(text: &mut Vec<u8>, fault: SettingFault) -> Result<(), NoMemory>
+    ensures { OnOk result (text.new.items ≡ text.old.items ++ report_text (ReportLine.RefusedSetting fault)) }
+{
+    push_front(text, &[Fixed(b"refused")])?;
+    push_setting(text, fault)?;
+    end_line(text)
+}
+
+fn property_line<'a>(
+    text: &mut Vec<u8>,
+    alloc: Global,
+    name: &'a Name,
+    value: &'a Bytes,
+) -> Result<(), NoMemory>
+    ensures { OnOk result (text.new.items ≡ text.old.items ++ report_text (ReportLine.Property name.now value.now)) }
+{
+    push_line(
+        text,
+        &[Fixed(b"property"), Text(name.bytes()), Text(value.bytes())],
+    )
 }
 
 fn show_line(
@@ -508,6 +550,9 @@ pub fn write_line(text: &mut Vec<u8>, alloc: Global, line: &ReportLine) -> Resul
             members,
             primary,
         } => view_line(text, alloc, group, *version, members, *primary),
+        ReportLine::Deleted { group } => {
+            push_line(text, &[Fixed(b"deleted"), Text(group.bytes())])
+        }
         ReportLine::Attempt {
             message,
             client,
@@ -589,19 +634,31 @@ pub fn write_line(text: &mut Vec<u8>, alloc: Global, line: &ReportLine) -> Resul
                 &[Fixed(b"ignored"), Number(*message), Fixed(b"reply")],
             )
         }
+        ReportLine::IgnoredDeleted { message } => push_line(
+            text,
+            &[Fixed(b"ignored"), Number(*message), Fixed(b"deleted")],
+        ),
         ReportLine::Ignored { message, why } => ignored_line(text, alloc, *message, *why),
         ReportLine::Adopted {
             client,
             group,
             version,
         } => adopted_line(text, alloc, client, group, *version),
+        ReportLine::Bound {
+            client,
+            group,
+            version,
+        } => bound_line(text, alloc, client, group, *version),
         ReportLine::Done { client, call, end } => done_line(text, alloc, client, *call, end),
         ReportLine::Busy { client } => push_line(text, &[Fixed(b"busy"), Text(client.bytes())]),
+        ReportLine::Idle { client } => push_line(text, &[Fixed(b"idle"), Text(client.bytes())]),
         ReportLine::Down { host } => {
             push_line(text, &[Fixed(b"down"), Number(u64::from(host.0))])
         }
         ReportLine::Up { host } => push_line(text, &[Fixed(b"up"), Number(u64::from(host.0))]),
         ReportLine::Refused(fault) => refused_line(text, alloc, *fault),
+        ReportLine::RefusedSetting(fault) => refused_setting_line(text, *fault),
+        ReportLine::Property { name, value } => property_line(text, alloc, name, value),
         ReportLine::Show {
             group,
             version,

@@ -42,6 +42,20 @@ pub enum Standing {
     Down,
 }
 
+/// Why properties, or the criteria of a group that is to be made, are refused (chapter 23,
+/// PropertyManager and GenericFactory). Places count from 0.
+#[derive(Clone, Copy, Debug, PartialEq, Eq)]
+pub enum SettingFault {
+    /// The property at this place is none.
+    InvalidProperty(u32),
+    /// The property at this place has a value that isn't supported, or can't be set then.
+    UnsupportedProperty(u32),
+    /// The criterion at this place is none.
+    InvalidCriteria(u32),
+    /// As many members as the group begins with are fewer than the least that it may have.
+    CannotMeetCriteria { initial: u16, minimum: u16 },
+}
+
 /// How a client's invocation ended.
 #[derive(Debug, Drop)]
 pub enum CallEnd {
@@ -69,6 +83,10 @@ pub enum ReportLine {
         version: Version,
         members: Members,
         primary: Option<HostNo>,
+    },
+    /// A group was deleted.
+    Deleted {
+        group: Name,
     },
     /// A client's attempt, as a message.
     Attempt {
@@ -148,6 +166,10 @@ pub enum ReportLine {
     UnheardReply {
         message: u64,
     },
+    /// A message came for a group that was deleted.
+    IgnoredDeleted {
+        message: u64,
+    },
     /// A host ignored what was sent to it.
     Ignored {
         message: u64,
@@ -155,6 +177,12 @@ pub enum ReportLine {
     },
     /// A client goes on over the reference of a view that it was told.
     Adopted {
+        client: Name,
+        group: Name,
+        version: Version,
+    },
+    /// `bound C G V`: the client goes by the reference of this view now.
+    Bound {
         client: Name,
         group: Name,
         version: Version,
@@ -169,6 +197,10 @@ pub enum ReportLine {
     Busy {
         client: Name,
     },
+    /// `idle C`: the client has no open invocation.
+    Idle {
+        client: Name,
+    },
     /// A host stopped, or was down already.
     Down {
         host: HostNo,
@@ -179,6 +211,13 @@ pub enum ReportLine {
     },
     /// A change of a group's members was refused.
     Refused(ManageFault),
+    /// Properties, or the criteria of a group that is to be made, were refused.
+    RefusedSetting(SettingFault),
+    /// A property's value.
+    Property {
+        name: Name,
+        value: Bytes,
+    },
     /// A group's newest version, the length and the mark of its journal, and its time.
     Show {
         group: Name,

@@ -12,9 +12,9 @@ use sys_faults::{Completed, SysFault, SysKind};
 const HOST: HostNo = HostNo(0);
 
 // A line, and its bytes.
-type Row = (ReportLine, &'static str);
+pub(crate) type Row = (ReportLine, &'static str);
 
-fn name(alloc: Global, text: &[u8]) -> Result<Name, NoMemory>
+pub(crate) fn name(alloc: Global, text: &[u8]) -> Result<Name, NoMemory>
     requires { length text.now < 2 ^ 32 }
 {
     match Name::of(alloc, text) {
@@ -231,7 +231,7 @@ fn one_call(alloc: Global, rows: &mut Vec<Row>) -> Result<(), NoMemory> {
     Ok(())
 }
 
-// A view goes to a host, and to a client.
+// A view goes to a host.
 fn told(alloc: Global, rows: &mut Vec<Row>) -> Result<(), NoMemory> {
     let message = ReportLine::ViewMessage {
         message: 2,
@@ -246,16 +246,6 @@ fn told(alloc: Global, rows: &mut Vec<Row>) -> Result<(), NoMemory> {
         version: Version(2),
     };
     rows.push((known, "known 1 bank 2\n"))?;
-    let adopted = ReportLine::Adopted {
-        client: name(alloc, b"ann")?,
-        group: name(alloc, b"bank")?,
-        version: Version(2),
-    };
-    rows.push((adopted, "adopt ann bank 2\n"))?;
-    let busy = ReportLine::Busy {
-        client: name(alloc, b"ann")?,
-    };
-    rows.push((busy, "busy ann\n"))?;
     Ok(())
 }
 
@@ -572,12 +562,16 @@ const KINDS: [(SysKind, &str); 13] = [
     (SysKind::NoMemory, "done ann 1 system NO_MEMORY 1 no\n"),
 ];
 
+fn raised(alloc: Global, kind: &SysKind) -> Result<ReportLine, NoMemory> {
+    let outcome = system(kind.copy(alloc)?, 1, Completed::No);
+    done(alloc, 1, CallEnd::Shown(outcome.copy(alloc)?))
+}
+
 #[test]
 fn each_exception(rt: HostRuntime) -> Result<(), NoMemory> {
     let alloc = rt.alloc();
     for (kind, want) in &KINDS {
-        let outcome = system(kind.copy(alloc)?, 1, Completed::No);
-        let line = done(alloc, 1, CallEnd::Shown(outcome.copy(alloc)?))?;
+        let line = raised(alloc, kind)?;
         assert!(rt; is_written(alloc, &line, want)?, "{want}");
     }
     Ok(())

@@ -1,30 +1,34 @@
 -- A request that comes to its host.
-use Rattle.std.proofs.Common.{◌≡◌, ℕ, zero, suc, ◌+◌, ◌<◌, ◌≤◌, arith, List, [], ◌∷◌, length, Option, Some, None, refl, sym, ap, subst, ◌∙◌}
-use Rattle.std.specs.Prelude.{slice_get, option_map, Result, Ok, Err}
+use Rattle.std.proofs.Common.{◌≡◌, ℕ, zero, suc, ◌+◌, ◌<◌, ◌≤◌, arith, Bool, true, false, List, [], ◌∷◌, length, Option, Some, None, refl, sym, ap, subst, ◌∙◌}
+use Rattle.std.specs.Prelude.{if◌then◌else◌, slice_get, option_map, Result, Ok, Err}
 use Rattle.ft_base.specs.declared.memory.NoMemory.{NoMemory}
+use Rattle.ft_base.specs.declared.numbers.GroupId.{GroupId}
 use Rattle.ft_base.specs.declared.numbers.HostNo.{HostNo}
 use Rattle.ft_base.specs.declared.decisions.Stop.{Stop}
 use Rattle.ft_report.specs.declared.reports.ReportLine.{ReportLine}
 use Rattle.group_model.specs.declared.events.Event.{Event}
 use Rattle.group_model.specs.declared.events.GroupAnswer.{GroupAnswer}
 use Rattle.group_model.specs.declared.events.GroupAnswer.TheVariants as answers
+use Rattle.group_model.specs.declared.events.Out.{Out}
+use Rattle.group_model.specs.Sending.{brought}
 use Rattle.script_clients.specs.declared.answers.Attempt.{Attempt}
 use Rattle.script_clients.specs.Clients.{Client}
-use Rattle.script_groups.specs.Groups.{ScriptGroup, group_numbered, placed, turn}
-use Rattle.script_world.specs.World.{World, with_event}
+use Rattle.script_groups.specs.Acting.{MayCome}
+use Rattle.script_groups.specs.Groups.{ScriptGroup, Placed, group_numbered, placed, turn}
+use Rattle.script_world.specs.Sound.{IsOnItsWay, MayComeTo}
+use Rattle.script_world.specs.World.{World, carried, is_deleted, with_event}
 use Rattle.script_world.specs.Worlds.{EventAt, HasTurnAt, IsMade}
-use Rattle.ft_world.specs.Answers.{Does}
-use Rattle.ft_world.specs.Delivering.{answered, asker_of, request_event, requested}
+use Rattle.world_turns.specs.Answers.{Does}
+use Rattle.ft_world.proofs.PlaceLemmas.{same_some}
+use Rattle.ft_world.specs.Delivering.{answered, asker_of, request_event, requested, turned_away}
 use Rattle.ft_world.specs.declared.deliveries.Asker.{Asker}
-use Rattle.ft_world.specs.Turns.{Effect, costing, says}
+use Rattle.world_turns.specs.Naming.{Deleted, There, group_with_number, naming_of}
+use Rattle.world_turns.specs.Turns.{Effect, costing, says}
 
 pub get_inside : {A : Type 0} (xs : List A) (i : ℕ) (x : A) → slice_get xs i ≡ Some x → i < length xs
 get_inside [] i x at = absurd cc
 get_inside (y ∷ xs) zero x at = omega arith
 get_inside (y ∷ xs) (suc i) x at = omega (arith, get_inside xs i x at)
-
-pub same_some : {A : Type 0} (x y : A) → Some x ≡ Some y → x ≡ y
-same_some x y e = cc
 
 none_mapped : {A B : Type 0} (f : A → B) (o : Option A) → option_map f o ≡ None → o ≡ None
 none_mapped f None e = refl
@@ -66,28 +70,37 @@ does_behind calls e (Ok report) new before between now is done =
     record { world = done.world; lines = done.lines; calls = omega (arith, is, done.calls) }
 does_behind calls e (Err why) new before between now is done = omega (arith, is, done)
 
-module _ (w : World) (k client : ℕ) (host : HostNo) (a : Attempt) (stop : Stop) (place : ℕ) (g : ScriptGroup)
-    (numbered : group_numbered w.groups a.group.0 ≡ Some (placed place g)) where
+module _ (w : World) (k client : ℕ) (host : HostNo) (a : Attempt) (stop : Stop) (place : ℕ) (g : ScriptGroup) where
   -- of a client that isn't there
   pub nobody_asks : option_map (asker_of client host a g) (slice_get w.clients client) ≡ None →
-      requested w k client host a stop (group_numbered w.groups a.group.0) (slice_get w.clients client) ≡ says w []
-  nobody_asks none =
-      ap (λ o. requested w k client host a stop o (slice_get w.clients client)) numbered
-      ∙ ap (requested w k client host a stop (Some (placed place g))) (none_mapped (asker_of client host a g) (slice_get w.clients client) none)
+      requested w k client host a stop (There (placed place g)) (slice_get w.clients client) ≡ says w []
+  nobody_asks none = ap (requested w k client host a stop (There (placed place g))) (none_mapped (asker_of client host a g) (slice_get w.clients client) none)
 
   asks_as : (asker : Asker) → option_map (asker_of client host a g) (slice_get w.clients client) ≡ Some asker →
-      requested w k client host a stop (group_numbered w.groups a.group.0) (slice_get w.clients client)
+      requested w k client host a stop (There (placed place g)) (slice_get w.clients client)
       ≡ costing (turn g (request_event w host a stop)).calls (answered (with_event w place g (request_event w host a stop)) k asker (turn g (request_event w host a stop)).answer)
   asks_as asker some = go (slice_get w.clients client) some
     where
       go : (o : Option Client) → option_map (asker_of client host a g) o ≡ Some asker →
-          requested w k client host a stop (group_numbered w.groups a.group.0) o
+          requested w k client host a stop (There (placed place g)) o
           ≡ costing (turn g (request_event w host a stop)).calls (answered (with_event w place g (request_event w host a stop)) k asker (turn g (request_event w host a stop)).answer)
       go None e = absurd cc
       go (Some c) e =
-          ap (λ o. requested w k client host a stop o (Some c)) numbered
-          ∙ ap (λ (x : Asker). costing (turn g (request_event w host a stop)).calls (answered (with_event w place g (request_event w host a stop)) k x (turn g (request_event w host a stop)).answer))
+          ap (λ (x : Asker). costing (turn g (request_event w host a stop)).calls (answered (with_event w place g (request_event w host a stop)) k x (turn g (request_event w host a stop)).answer))
           (same_some (asker_of client host a g c) asker e)
+
+  -- of a group that was deleted
+  pub turned_away_is : (asker : Asker) → option_map (asker_of client host a g) (slice_get w.clients client) ≡ Some asker →
+      requested w k client host a stop (Deleted (placed place g)) (slice_get w.clients client) ≡ turned_away w k asker
+  turned_away_is asker some = go (slice_get w.clients client) some
+    where
+      go : (o : Option Client) → option_map (asker_of client host a g) o ≡ Some asker → requested w k client host a stop (Deleted (placed place g)) o ≡ turned_away w k asker
+      go None e = absurd cc
+      go (Some c) e = ap (turned_away w k) (same_some (asker_of client host a g c) asker e)
+
+  pub nobody_turned_away : option_map (asker_of client host a g) (slice_get w.clients client) ≡ None →
+      requested w k client host a stop (Deleted (placed place g)) (slice_get w.clients client) ≡ says w []
+  nobody_turned_away none = ap (requested w k client host a stop (Deleted (placed place g))) (none_mapped (asker_of client host a g) (slice_get w.clients client) none)
 
   -- whom it is from
   pub asker_is : (asker : Asker) → option_map (asker_of client host a g) (slice_get w.clients client) ≡ Some asker → (asker.host ≡ host) × (asker.group ≡ g.id)
@@ -100,7 +113,7 @@ module _ (w : World) (k client : ℕ) (host : HostNo) (a : Attempt) (stop : Stop
   -- no memory for its event
   pub short_request : (asker : Asker) → option_map (asker_of client host a g) (slice_get w.clients client) ≡ Some asker → (e : Event) → e ≡ request_event w host a stop →
       slice_get w.groups place ≡ Some g → (later : World) (before now : ℕ) → EventAt w place e answers.NoMemory later before now →
-      now ≤ before + (requested w k client host a stop (group_numbered w.groups a.group.0) (slice_get w.clients client)).calls
+      now ≤ before + (requested w k client host a stop (There (placed place g)) (slice_get w.clients client)).calls
   short_request asker some e is there later before now short =
       let same : short.group ≡ g = same_some short.group g (sym short.there ∙ there) in
       let calls : now ≤ before + (turn g (request_event w host a stop)).calls =
@@ -111,7 +124,7 @@ module _ (w : World) (k client : ℕ) (host : HostNo) (a : Attempt) (stop : Stop
   pub request_done : (asker : Asker) → option_map (asker_of client host a g) (slice_get w.clients client) ≡ Some asker → (e : Event) → e ≡ request_event w host a stop →
       slice_get w.groups place ≡ Some g → (answer : GroupAnswer) → (answer ≡ answers.NoMemory → ⊥) → (later new : World) (before between now : ℕ) → EventAt w place e answer later before between →
       (result : Result (List ReportLine) NoMemory) → Does (answered later k asker answer) result new between now →
-      Does (requested w k client host a stop (group_numbered w.groups a.group.0) (slice_get w.clients client)) result new before now
+      Does (requested w k client host a stop (There (placed place g)) (slice_get w.clients client)) result new before now
   request_done asker some e is there answer made later new before between now had result done =
       let it = has_turn w place e answer later before between made had in
       let same : it.group ≡ g = same_some it.group g (sym it.there ∙ there) in
@@ -125,3 +138,21 @@ module _ (w : World) (k client : ℕ) (host : HostNo) (a : Attempt) (stop : Stop
       (does_behind (turn g (request_event w host a stop)).calls (answered (with_event w place g (request_event w host a stop)) k asker (turn g (request_event w host a stop)).answer) result new before between now counted
       (subst (λ (b : GroupAnswer). Does (answered (with_event w place g (request_event w host a stop)) k asker b) result new between now) (sym answer_is)
       (subst (λ (v : World). Does (answered v k asker answer) result new between now) later_is done)))
+
+-- ---- a group that is there
+
+pub there_is : (w : World) (o : Option (Placed ScriptGroup)) (p : Placed ScriptGroup) → naming_of w o ≡ There p → o ≡ Some p
+unfolding naming_of
+there_is w None p e = absurd cc
+there_is w (Some q) p e = go (is_deleted w q.value) e
+  where
+    go : (b : Bool) → (if b then Deleted q else There q) ≡ There p → Some q ≡ Some p
+    go true f = absurd cc
+    go false f = cc
+
+-- what was sent may come to it
+pub may_come : (w : World) (group : GroupId) (out : Out) (place : ℕ) (g h : ScriptGroup) → IsOnItsWay w.groups (carried group out) →
+    group_with_number w group.0 ≡ There (placed place g) → slice_get w.groups place ≡ Some g → slice_get w.groups place ≡ Some h → MayCome h (brought out)
+may_come w group out place g h comes named at there =
+    subst (λ (x : ScriptGroup). MayCome x (brought out)) (same_some g h (sym at ∙ there))
+    (subst (λ (o : Option (Placed ScriptGroup)). MayComeTo o out) (there_is w (group_numbered w.groups group.0) (placed place g) named) comes)

@@ -1,7 +1,7 @@
 -- What a client's call leaves of a world.
 use Rattle.std.proofs.Common.{◌≡◌, ℕ, zero, suc, ◌<◌, arith, Bool, true, false, List, [], ◌∷◌, length, Option, Some, None, refl, sym, ap, subst, ◌∙◌}
 use Rattle.std.specs.Prelude.{Ok, if◌then◌else◌, is_some, not, slice_get, slice_set, unwrap_or}
-use Rattle.std.specs.List.{All, AllByRecursion}
+use Rattle.std.specs.List.{All}
 use Rattle.std.specs.Str.{bytes_eq}
 use Rattle.std.proofs.lemmas.List.Elements.{All-get_or}
 use Rattle.std.proofs.lemmas.Option.{get_or_from_slice_get, slice_get_within}
@@ -21,9 +21,10 @@ use Rattle.script_groups.specs.References.{newest_reference}
 use Rattle.script_world.specs.World.{World, client_named, with_client}
 use Rattle.script_world.specs.Worlds.{begin}
 use Rattle.script_world.specs.declared.worlds.Begun.{Begun}
-use Rattle.ft_world.specs.Answers.{Acts, HasDone}
+use Rattle.world_turns.specs.Answers.{Acts, HasDone}
+use Rattle.ft_world.proofs.PlaceLemmas.{same_some}
 use Rattle.ft_world.specs.Clients.{begun, call_by, call_from, does, expiration_of, is_numbered, key_of, started}
-use Rattle.ft_world.specs.Turns.{Effect, goes, says}
+use Rattle.world_turns.specs.Turns.{Effect, goes, says}
 
 -- ---- lists
 
@@ -32,11 +33,6 @@ pub some_at : {A : Type 0} (xs : List A) (i : ℕ) → i < length xs → (x : A)
 some_at [] i h = absurd (omega arith)
 some_at (x ∷ xs) zero h = (x, refl)
 some_at (x ∷ xs) (suc i) h = some_at xs i (omega arith)
-
-pub all_get : {A : Type 0} (P : A → Type 0) (xs : List A) (i : ℕ) (x : A) → AllByRecursion P xs → slice_get xs i ≡ Some x → P x
-all_get P [] i x all at = absurd cc
-all_get P (y ∷ xs) zero x all at = subst P (let e : y ≡ x = cc in e) all.0
-all_get P (y ∷ xs) (suc i) x all at = all_get P xs i x all.1 at
 
 pub each_get : {A : Type 0} (P : A → Type 0) (xs : List A) (i : ℕ) (x : A) → All P xs → slice_get xs i ≡ Some x → P x
 each_get P xs i x all at = subst P (get_or_from_slice_get xs i x x at) (All-get_or P xs i x (slice_get_within xs i x at) all)
@@ -55,9 +51,6 @@ set_length : {A : Type 0} (xs : List A) (i : ℕ) (x : A) → length (slice_set 
 set_length [] i x = refl
 set_length (z ∷ xs) zero x = refl
 set_length (z ∷ xs) (suc i) x = ap suc (set_length xs i x)
-
-pub same_some : {A : Type 0} (x y : A) → Some x ≡ Some y → x ≡ y
-same_some x y e = cc
 
 pub none_of : {A : Type 0} (o : Option A) → is_some o ≡ false → o ≡ None
 none_of None e = refl

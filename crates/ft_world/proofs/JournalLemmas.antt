@@ -1,20 +1,19 @@
 -- What holds of every world that a script makes, from what holds of every group whatever events it has.
-use Rattle.std.proofs.Common.{false, ◌≡◌, ℕ, ◌+◌, ◌<◌, arith, List, [], ◌∷◌, ◌++◌, Some, refl, sym, ap, subst, ◌∙◌}
+use Rattle.std.proofs.Common.{false, ◌≡◌, ℕ, ◌+◌, arith, List, [], ◌∷◌, refl, sym, ap, subst, ◌∙◌}
 use Rattle.std.specs.Prelude.{sum_by}
 use Rattle.std.specs.List.{AllByRecursion}
 use Rattle.std.proofs.lemmas.List.Sums.{sum_by-cons}
-use Rattle.ft_base.specs.declared.decisions.Stop.{Stop}
 use Rattle.group_model.specs.declared.events.Event.{Event}
 use Rattle.group_model.specs.declared.events.Event.TheVariants as events
 use Rattle.group_model.specs.Laws.{DeposedAppendNothing}
 use Rattle.group_model.specs.Plain.{Group}
-use Rattle.script_groups.specs.Groups.{ScriptGroup, common_of, entries_caught_up, entries_run, group_of, machine_of, orders_applied, reply_of, servant_calls, with_more}
+use Rattle.script_groups.specs.Groups.{ScriptGroup, common_of, entries_caught_up, entries_run, group_of, machine_of, orders_applied, servant_calls, with_more}
 use Rattle.script_groups.specs.Laws.{CallsAreCounted, CallsGoOn, GroupsGrow, HistoriesGoOn, JournalsAcceptOnce, NoneCalledYet, RepliesStay}
 use Rattle.fault_script.specs.declared.lines.Line.{Line}
 use Rattle.script_world.specs.World.{World, empty}
 use Rattle.ft_world.specs.Acts.{act}
-use Rattle.ft_world.specs.Laws.{AllLater, DeposedDoNothing, DeposedDoesNothing, EachOnce, HasMore, KeepsEntries, ScriptsAcceptOnce, ScriptsKeepEntries, ServantsAreCalled, calls_from, calls_of_groups, or_no_more, or_stay, world_after}
-use Rattle.ft_world.specs.Turns.{Turn, Goes, Refused}
+use Rattle.ft_world.specs.Laws.{AllLater, DeposedDoNothing, DeposedDoesNothing, HasMore, KeepsEntries, ScriptsAcceptOnce, ScriptsKeepEntries, ServantsAreCalled, calls_from, calls_of_groups, or_no_more, or_stay, world_after}
+use Rattle.world_turns.specs.Turns.{Turn, Goes, Refused}
 use Rattle.ft_world.proofs.KeptLemmas.{GoesOn, act_on, all_next, all_stay}
 
 -- ---- what holds of every group

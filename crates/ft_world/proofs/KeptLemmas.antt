@@ -1,7 +1,7 @@
 -- What every line leaves of a world: each group, which may have had more events, and the servant calls of these;
 -- the clock goes on by less than 2^32, and each client begins one invocation at most.
-use Rattle.std.proofs.Common.{◌≡◌, ℕ, zero, suc, ◌+◌, ◌<◌, ◌≤◌, ◌^◌, arith, Bool, true, false, List, [], ◌∷◌, ◌++◌, Option, Some, None, Result, Ok, Err, refl, sym, ap, subst, ◌∙◌}
-use Rattle.std.specs.Prelude.{◌==◌, ◌-◌, if◌then◌else◌, option_map, slice_get, slice_set}
+use Rattle.std.proofs.Common.{◌≡◌, ℕ, zero, suc, ◌+◌, ◌<◌, ◌≤◌, ◌^◌, arith, Bool, true, false, List, [], ◌∷◌, ◌++◌, length, Option, Some, None, Result, Ok, Err, refl, sym, ap, subst, ◌∙◌}
+use Rattle.std.specs.Prelude.{◌-◌, if◌then◌else◌, slice_get, slice_set}
 use Rattle.std.specs.List.{AllByRecursion}
 use Rattle.std.proofs.lemmas.List.Sums.{sum_by-cons}
 use Rattle.ft_base.specs.declared.decisions.Stop.{Stop}
@@ -13,12 +13,16 @@ use Rattle.client_retry.specs.Clients as retries
 use Rattle.fault_script.specs.Arguments.{call_words_of}
 use Rattle.fault_script.specs.declared.arguments.CallWords.{CallWords}
 use Rattle.fault_script.specs.declared.lines.KindWord.{KindWord}
+use Rattle.fault_script.specs.declared.lines.Level.{Level}
+use Rattle.fault_script.specs.declared.lines.Level.TheVariants as levels
 use Rattle.fault_script.specs.declared.lines.Line.{Line}
 use Rattle.fault_script.specs.declared.lines.Line.TheVariants as lines
 use Rattle.fault_script.specs.declared.lines.LineFault.{LineFault}
 use Rattle.fault_script.specs.declared.lines.MemberChange.{MemberChange}
 use Rattle.ft_report.specs.declared.reports.ReportLine.{ReportLine}
 use Rattle.ft_report.specs.declared.reports.ReportLine.TheVariants as reports
+use Rattle.generic_factory.specs.Creating.{refusal}
+use Rattle.generic_factory.specs.declared.faults.CreateFault.{CreateFault}
 use Rattle.giop_stream.specs.Sessions.{session}
 use Rattle.group_model.specs.declared.asking.Asked.{Asked}
 use Rattle.group_model.specs.declared.changes.Change.{Change}
@@ -31,106 +35,51 @@ use Rattle.group_model.specs.Asking.{signature_asked}
 use Rattle.group_model.specs.Sending.{brought}
 use Rattle.group_model.specs.Views.{host_no}
 use Rattle.group_references.specs.Ports.{host_at}
+use Rattle.host_server.specs.Replies.{no_group}
 use Rattle.iogr_reference.specs.Choices.{group_of_key}
 use Rattle.link_session.specs.Amid.{Grows, session_grows}
 use Rattle.link_session.specs.Ports.{linked}
+use Rattle.property_manager.specs.declared.effective.Levels.{Levels}
+use Rattle.property_manager.specs.declared.faults.PropertyFault.{PropertyFault}
+use Rattle.property_manager.specs.declared.settings.Property.{Property}
+use Rattle.property_manager.specs.Groups.{Settings, group_of}
 use Rattle.script_clients.specs.declared.answers.Attempt.{Attempt}
 use Rattle.script_clients.specs.declared.answers.Call.{Call}
 use Rattle.script_clients.specs.declared.answers.Told.{Told}
 use Rattle.script_clients.specs.declared.answers.Told.TheVariants as tolds
-use Rattle.script_clients.specs.Clients.{Client, Turn as Turned, hearing, going_on, new_client, taking}
+use Rattle.script_clients.specs.Clients.{Client, Turn as Turned, binding, failing, going_on, hearing, new_client, taking}
 use Rattle.script_groups.specs.Acting.{IsKept}
-use Rattle.script_groups.specs.Groups.{ScriptGroup, Placed, acted, all_acted, servant_calls, with_more, found, group_named, group_numbered, machine_of, opened, placed, signature_of, turn}
+use Rattle.script_groups.specs.Groups.{ScriptGroup, Placed, acted, all_acted, servant_calls, with_more, group_named, machine_of, opened, signature_of, turn}
 use Rattle.shipped_servants.specs.declared.kinds.Kind.{Kind}
+use Rattle.sys_faults.specs.declared.answers.Answer.TheVariants.{System as SystemAnswer}
 use Rattle.script_world.specs.declared.hosts.HostState.{HostState}
 use Rattle.script_world.specs.declared.messages.Message.{Message}
 use Rattle.script_world.specs.declared.messages.Message.TheVariants as messages
 use Rattle.script_world.specs.declared.messages.Reply.{Reply as AReply}
 use Rattle.script_world.specs.Sound.{HasActed, IsKeptWorld}
-use Rattle.script_world.specs.World.{World, client_named, is_up, message_numbered, passed, with_client, with_event, with_group, with_hosts, with_one_client}
+use Rattle.script_world.specs.World.{World, client_named, is_up, message_numbered, passed, with_client, with_event, with_hosts, with_messages, with_one_client, with_settings, without_group}
 use Rattle.script_world.specs.Worlds.{begin}
+use Rattle.ft_world.proofs.PlaceLemmas.{IsOf, IsOneNamed, IsOneOf, all_get, all_push, all_set, called_one, found_one, got, same_some, there_one, with_number_one}
 use Rattle.ft_world.specs.Acts.{act, act_first}
-use Rattle.ft_world.specs.Clients.{attempted, begun, call_by, call_from, call_said, call_to, does, started, started_by}
-use Rattle.ft_world.specs.Delivering.{answered, arrives, asker_of, brought_to, delivered, heard_by, heard_of, requested, request_event}
+use Rattle.ft_world.specs.Clients.{attempted, begun, call_by, call_from, call_said, call_to, does, gone_for, gone_said, started, started_by}
+use Rattle.ft_world.specs.Delivering.{answered, arrives, asker_of, brought_to, delivered, heard_by, heard_of, reply_to, requested, request_event, turned_away}
 use Rattle.ft_world.specs.declared.deliveries.Asker.{Asker}
-use Rattle.ft_world.specs.Hosts.{change_of, change_to, changed, changes_members, crash_line, host_causes, restart_line, show_found, started_again, stopped}
+use Rattle.world_management.specs.Creating.{create_causes, create_line, created, created_unless, creation, delete_found, grow_to, in_full, style_in}
+use Rattle.world_management.specs.Hosts.{change_of, change_to, changed, changes_members, crash_line, host_causes, on_host, restart_line, show_found, started_again, stopped}
 use Rattle.ft_world.specs.Laws.{AllLater, HasMore, calls_of_groups}
 use Rattle.script_groups.specs.Laws.{CallsGoOn, NoneCalledYet}
 use Rattle.ft_world.specs.Lines.{IsTimely}
 use Rattle.ft_world.specs.Links.{answered_by, ask_group, asked_event, group_by, group_keyed, inject_line, link_of, world_port, written}
-use Rattle.ft_world.specs.Making.{client_causes, client_line, group_causes, group_line, hosts_causes, hosts_line, kind_of, made_group, new_group, next_id, stopped_from, stopped_if}
-use Rattle.ft_world.specs.Printed.{gives_of}
-use Rattle.ft_world.specs.Reading.{member_of, reads}
+use Rattle.world_management.specs.Making.{client_causes, client_line, group_causes, group_line, hosts_causes, hosts_line, kind_of, made_group, new_group, next_id, stopped_from, stopped_if, style_criteria}
+use Rattle.world_management.specs.Properties.{get_group_found, set_group_found, set_in, set_line, set_unless, unset_line}
+use Rattle.ft_world.specs.Retrying.{bind_from, bind_to, bound_by, timed_out, timeout_from}
+use Rattle.ft_world.specs.Printed.{gives_of, shown}
+use Rattle.world_management.specs.Reading.{member_of, reads}
+use Rattle.script_groups.specs.References.{newest_reference}
 use Rattle.script_groups.specs.Reading.{identified, located, member_referred, referred}
-use Rattle.ft_world.specs.Sending.{all_carried}
-use Rattle.ft_world.specs.Turns.{Effect, Turn, Goes, Refused, first_cause, goes, judged, says, total_causes, totals_of, unless}
-
--- ---- elements of lists
-
-all_push : {A : Type 0} (P : A → Type 0) (xs : List A) (x : A) → AllByRecursion P xs → P x → AllByRecursion P (xs ++ x ∷ [])
-all_push P [] x all p = (p, tt)
-all_push P (y ∷ xs) x all p = (all.0, all_push P xs x all.1 p)
-
-all_set : {A : Type 0} (P : A → Type 0) (xs : List A) (i : ℕ) (x : A) → AllByRecursion P xs → P x → AllByRecursion P (slice_set xs i x)
-all_set P [] i x all p = tt
-all_set P (y ∷ xs) zero x all p = (p, all.1)
-all_set P (y ∷ xs) (suc i) x all p = (all.0, all_set P xs i x all.1 p)
-
--- whatever holds of all elements holds of this one
-abbrev IsOf : {A : Type 0} → List A → Option A → Type 1
-IsOf {A} xs None = Unit {1}
-IsOf {A} xs (Some x) = (P : A → Type 0) → AllByRecursion P xs → P x
-
--- it stands at its place
-abbrev IsOneOf : {A : Type 0} → List A → Option (Placed A) → Type 0
-IsOneOf xs None = Unit {0}
-IsOneOf {A} xs (Some p) = slice_get xs p.place ≡ Some p.value
-
-all_get : {A : Type 0} (P : A → Type 0) (xs : List A) (i : ℕ) (x : A) → AllByRecursion P xs → slice_get xs i ≡ Some x → P x
-all_get P [] i x all at = absurd cc
-all_get P (y ∷ xs) zero x all at = subst P (let e : y ≡ x = cc in e) all.0
-all_get P (y ∷ xs) (suc i) x all at = all_get P xs i x all.1 at
-
-got : {A : Type 0} (xs : List A) (i : ℕ) → IsOf xs (slice_get xs i)
-got [] i = tt
-got (x ∷ xs) zero = λ P all. all.0
-got {A = A} (x ∷ xs) (suc i) = further (slice_get xs i) (got xs i)
-  where
-    further : (o : Option A) → IsOf xs o → IsOf (x ∷ xs) o
-    further None is = tt
-    further (Some y) is = λ P all. is P all.1
-
-same_some : {A : Type 0} (x y : A) → Some x ≡ Some y → x ≡ y
-same_some x y e = cc
-
-found_at : {A : Type 0} (test : A → Bool) (i : ℕ) (xs : List A) (p : Placed A) → found test i xs ≡ Some p →
-    (k : ℕ) × (p.place ≡ i + k) × (slice_get xs k ≡ Some p.value)
-found_at test i [] p e = absurd cc
-found_at {A = A} test i (x ∷ xs) p e = go (found_at test (suc i) xs p) (test x) e
-  where
-    go : (found test (suc i) xs ≡ Some p → (k : ℕ) × (p.place ≡ suc i + k) × (slice_get xs k ≡ Some p.value)) → (b : Bool) → (if b then Some (placed i x) else found test (suc i) xs) ≡ Some p → (k : ℕ) × (p.place ≡ i + k) × (slice_get (x ∷ xs) k ≡ Some p.value)
-    go behind true f =
-        let is : placed i x ≡ p = same_some (placed i x) p f in
-        let place : p.place ≡ i = ap (λ (q : Placed A). q.place) (sym is) in
-        (0, omega (arith, place), ap (λ (q : Placed A). Some q.value) is)
-    go behind false f = let at = behind f in (suc at.0, omega (arith, at.1), at.2)
-
-found_one : {A : Type 0} (test : A → Bool) (xs : List A) → IsOneOf xs (found test 0 xs)
-found_one {A = A} test xs = go (found test 0 xs) refl
-  where
-    go : (o : Option (Placed A)) → found test 0 xs ≡ o → IsOneOf xs o
-    go None e = tt
-    go (Some p) e =
-        let at = found_at test 0 xs p e in
-        subst (λ (k : ℕ). slice_get xs k ≡ Some p.value) (let same : at.0 ≡ p.place = omega (arith, at.1) in same) at.2
-
-numbered_one : (gs : List ScriptGroup) (number : ℕ) → IsOneOf gs (group_numbered gs number)
-numbered_one gs number = choose (number - 1) (number == 0) (slice_get gs (number - 1)) refl
-  where
-    choose : (i : ℕ) (b : Bool) (o : Option ScriptGroup) → slice_get gs i ≡ o → IsOneOf gs (if b then None else option_map (placed i) o)
-    choose i true o at = tt
-    choose i false None at = tt
-    choose i false (Some g) at = at
+use Rattle.world_turns.specs.Sending.{all_carried}
+use Rattle.world_turns.specs.Naming.{Naming, NeverMade, Deleted, There, gone, group_called, group_with_number}
+use Rattle.world_turns.specs.Turns.{Effect, Turn, Goes, Refused, first_cause, goes, judged, says, total_causes, totals_of, unless}
 
 -- ---- clients
 
@@ -391,9 +340,52 @@ module _ (T : Type 0) where
   said_on w client g op (Err why) = tt
   said_on w client g op (Ok said) = from_on w (client_named w client) g op said (found_one _ w.clients)
 
-  call_on : (w : World) (client : List ℕ) (o : Option (Placed ScriptGroup)) (op : List ℕ) (words : List (List ℕ)) → GoesOn w (call_to w client o op words)
-  call_on w client None op words = tt
-  call_on w client (Some p) op words = said_on w client p.value op (call_words_of (signature_of p.value op) words)
+  gone_for_on : (w : World) (o : Option (Placed Client)) → GoesOn w (gone_for w o)
+  gone_for_on w None = tt
+  gone_for_on w (Some p) = begins_none w w 0 (same w)
+
+  gone_said_on : (w : World) (client : List ℕ) (said : Result CallWords LineFault) → GoesOn w (gone_said w client said)
+  gone_said_on w client (Err why) = tt
+  gone_said_on w client (Ok said) = gone_for_on w (client_named w client)
+
+  call_on : (w : World) (client : List ℕ) (n : Naming) (op : List ℕ) (words : List (List ℕ)) → GoesOn w (call_to w client n op words)
+  call_on w client NeverMade op words = tt
+  call_on w client (Deleted p) op words = gone_said_on w client (call_words_of (signature_of p.value op) words)
+  call_on w client (There p) op words = said_on w client p.value op (call_words_of (signature_of p.value op) words)
+
+  hears_none : (c : Client) (o : Option Call) (t : retries.Turn) (lines : ℕ) → Few lines c → Few lines (going_on c o t).client
+  hears_none c None t lines f = f
+  hears_none c (Some call) t lines f = f
+
+  -- ---- a client that is bound, and an attempt that gets no reply
+
+  client_stands : (w : World) (p : Placed Client) (d : Client) → IsOneOf w.clients (Some p) → ((lines : ℕ) → Few lines p.value → Few lines d) → Keeps w (with_client w p.place d) 0
+  client_stands w p d is hears =
+      untouched w (with_client w p.place d) refl refl (λ lines f. all_set (Few lines) w.clients p.place d f (hears lines (all_get (Few lines) w.clients p.place p.value f is)))
+
+  bound_keeps : (w : World) (p : Placed Client) (g : ScriptGroup) (o : Option Call) → IsOneOf w.clients (Some p) → Makes w (bound_by w p g o)
+  bound_keeps w p g None is = client_stands w p (binding p.value (newest_reference g)) is (λ lines f. f)
+  bound_keeps w p g (Some call) is = same w
+
+  bind_to_on : (w : World) (p : Placed Client) (n : Naming) → IsOneOf w.clients (Some p) → GoesOn w (bind_to w p n)
+  bind_to_on w p NeverMade is = tt
+  bind_to_on w p (Deleted g) is = begins_none w w 0 (same w)
+  bind_to_on w p (There g) is = let e : Effect = bound_by w p g.value p.value.call in begins_none w e.world e.calls (bound_keeps w p g.value p.value.call is)
+
+  bind_on : (w : World) (o : Option (Placed Client)) (n : Naming) → IsOneOf w.clients o → GoesOn w (bind_from w o n)
+  bind_on w None n is = tt
+  bind_on w (Some p) n is = bind_to_on w p n is
+
+  timeout_on : (w : World) (o : Option (Placed Client)) → IsOneOf w.clients o → GoesOn w (timeout_from w o)
+  timeout_on w None is = tt
+  timeout_on w (Some p) is =
+      let t : Turned = failing p.value (record { 0 = w.clock }) in
+      let v : World = with_client w p.place t.client in
+      let made : Effect = timed_out w p in
+      begins_none w made.world made.calls
+      (as_many w made.world (0 + made.calls) made.calls (omega arith)
+      (behind w v made.world 0 made.calls (client_stands w p t.client is (λ lines f. hears_none p.value p.value.call _ lines f))
+      (does_keeps v p.place p.value.name None (_ ∷ []) t.told)))
 
   -- ---- a message that comes
 
@@ -412,21 +404,29 @@ module _ (T : Type 0) where
   answered_keeps w k a answers.Up = same w
   answered_keeps w k a answers.NoMemory = same w
 
-  requested_keeps : (w : World) (k client : ℕ) (host : HostNo) (a : Attempt) (stop : Stop) (o : Option (Placed ScriptGroup)) (c : Option Client) →
-      IsOneOf w.groups o → Makes w (requested w k client host a stop o c)
-  requested_keeps w k client host a stop None c is = same w
-  requested_keeps w k client host a stop (Some p) None is = same w
-  requested_keeps w k client host a stop (Some p) (Some c) is =
+  turned_away_keeps : (w : World) (k : ℕ) (a : Asker) → Makes w (turned_away w k a)
+  turned_away_keeps w k a = go (is_up w a.host.0)
+    where
+      reply : List Message
+      reply = messages.Reply (reply_to a (SystemAnswer no_group)) ∷ []
+
+      go : (up : Bool) → Makes w (if up then says (with_messages w reply) (reports.NoGroup a.host ∷ reports.Reply (length w.messages + 1) a.host a.client_name a.id (shown a.group_name a.gives (SystemAnswer no_group)) ∷ []) else says w (reports.Lost k ∷ []))
+      go true = more_sent w reply
+      go false = same w
+
+  requested_keeps : (w : World) (k client : ℕ) (host : HostNo) (a : Attempt) (stop : Stop) (n : Naming) (c : Option Client) →
+      IsOneNamed w.groups n → Makes w (requested w k client host a stop n c)
+  requested_keeps w k client host a stop NeverMade c is = same w
+  requested_keeps w k client host a stop (Deleted p) None is = same w
+  requested_keeps w k client host a stop (Deleted p) (Some c) is = turned_away_keeps w k (asker_of client host a p.value c)
+  requested_keeps w k client host a stop (There p) None is = same w
+  requested_keeps w k client host a stop (There p) (Some c) is =
       let e : Event = request_event w host a stop in
       let v : World = with_event w p.place p.value e in
       let answer : GroupAnswer = (turn p.value e).answer in
       let made : Effect = answered v k (asker_of client host a p.value c) answer in
       behind w v made.world (turn p.value e).calls made.calls (group_acts w p e is)
       (answered_keeps v k (asker_of client host a p.value c) answer)
-
-  hears_none : (c : Client) (o : Option Call) (t : retries.Turn) (lines : ℕ) → Few lines c → Few lines (going_on c o t).client
-  hears_none c None t lines f = f
-  hears_none c (Some call) t lines f = f
 
   heard_keeps : (w : World) (k : ℕ) (r : AReply) (o : Option Client) → IsOf w.clients o → Makes w (heard_by w k r o)
   heard_keeps w k r None is = same w
@@ -438,15 +438,16 @@ module _ (T : Type 0) where
       (behind w v made.world 0 made.calls (client_hears w r.client c t.client is (λ lines f. hears_none c c.call _ lines f))
       (does_keeps v r.client c.name r.gives (_ ∷ []) t.told))
 
-  brought_keeps : (w : World) (k : ℕ) (out : Out) (o : Option (Placed ScriptGroup)) → IsOneOf w.groups o → Makes w (brought_to w k out o)
-  brought_keeps w k out None is = same w
-  brought_keeps w k out (Some p) is = as_many w (with_event w p.place p.value (brought out)) _ _ (omega arith) (group_acts w p (brought out) is)
+  brought_keeps : (w : World) (k : ℕ) (out : Out) (n : Naming) → IsOneNamed w.groups n → Makes w (brought_to w k out n)
+  brought_keeps w k out NeverMade is = same w
+  brought_keeps w k out (Deleted p) is = same w
+  brought_keeps w k out (There p) is = as_many w (with_event w p.place p.value (brought out)) _ _ (omega arith) (group_acts w p (brought out) is)
 
   arrives_keeps : (w : World) (k : ℕ) (stop : Stop) (m : Message) → Makes w (arrives w k stop m)
   arrives_keeps w k stop (messages.Request client host a) =
-      requested_keeps w k client host a stop (group_numbered w.groups a.group.0) (slice_get w.clients client) (numbered_one w.groups a.group.0)
+      requested_keeps w k client host a stop (group_with_number w a.group.0) (slice_get w.clients client) (with_number_one w a.group.0)
   arrives_keeps w k stop (messages.Reply r) = heard_keeps w k r (slice_get w.clients r.client) (got w.clients r.client)
-  arrives_keeps w k stop (messages.Carried group out) = brought_keeps w k out (group_numbered w.groups group.0) (numbered_one w.groups group.0)
+  arrives_keeps w k stop (messages.Carried group out) = brought_keeps w k out (group_with_number w group.0) (with_number_one w group.0)
 
   deliver_on : (w : World) (k : ℕ) (stop : Stop) (o : Option Message) → GoesOn w (delivered w k stop o)
   deliver_on w k stop None = tt
@@ -492,7 +493,7 @@ module _ (T : Type 0) where
 
   by_one : (w : World) (o : Option GroupId) → IsOneOf w.groups (group_by w o)
   by_one w None = tt
-  by_one w (Some group) = numbered_one w.groups group.0
+  by_one w (Some group) = there_one w.groups (group_with_number w group.0) (with_number_one w group.0)
 
   none_further : (e f : Effect) → f.world ≡ e.world → f.calls ≡ e.calls + 0 → Further e f
   none_further e f world calls = record { calls = 0; more = calls; keeps = subst (λ (w : World). Keeps e.world w 0) (sym world) (same e.world) }
@@ -551,11 +552,21 @@ module _ (T : Type 0) where
       let made : Effect = changed v host p.value (turn p.value e).answer in
       behind w v made.world (turn p.value e).calls made.calls (group_acts w p e is) (changed_keeps v host p.value (turn p.value e).answer)
 
-  change_on : (w : World) (o : Option (Placed ScriptGroup)) (change : MemberChange) (host : ℕ) → IsOneOf w.groups o → GoesOn w (change_to w o change host)
-  change_on w None change host is = tt
-  change_on w (Some p) change host is =
-      let e : Effect = changes_members w p (change_of change (host_no host)) (host_no host) in
-      refused_or w (first_cause (host_causes w host)) 0 (goes e) (begins_none w e.world e.calls (changes_keep w p (change_of change (host_no host)) (host_no host) is))
+  -- a line about a host, where that is there
+  on_host_on : (w : World) (host : ℕ) (e : Effect) → Makes w e → GoesOn w (on_host w host e)
+  on_host_on w host e keeps = refused_or w (first_cause (host_causes w host)) 0 (goes e) (begins_none w e.world e.calls keeps)
+
+  change_on : (w : World) (n : Naming) (change : MemberChange) (host : ℕ) → IsOneNamed w.groups n → GoesOn w (change_to w n change host)
+  change_on w NeverMade change host is = tt
+  change_on w (Deleted p) change host is = on_host_on w host (gone w) (same w)
+  change_on w (There p) change host is =
+      on_host_on w host (changes_members w p (change_of change (host_no host)) (host_no host)) (changes_keep w p (change_of change (host_no host)) (host_no host) is)
+
+  grow_on : (w : World) (n : Naming) (host : ℕ) → IsOneNamed w.groups n → GoesOn w (grow_to w n host)
+  grow_on w NeverMade host is = tt
+  grow_on w (Deleted p) host is = on_host_on w host (gone w) (same w)
+  grow_on w (There p) host is =
+      on_host_on w host (changes_members w p (creation w p.value host) (host_no host)) (changes_keep w p (creation w p.value host) (host_no host) is)
 
   -- one of two worlds
   either_keeps : (w : World) (b : Bool) (u v : World) → Keeps w u 0 → Keeps w v 0 → Keeps w (if b then u else v) 0
@@ -574,19 +585,20 @@ module _ (T : Type 0) where
       refused_or w (first_cause (host_causes w host)) 0 (goes (says new (reports.Up (host_no host) ∷ [])))
       (begins_none w new 0 (either_keeps w (is_up w host) w (started_again w (host_no host)) (same w) (host_starts w (host_no host))))
 
-  show_on : (w : World) (o : Option (Placed ScriptGroup)) → GoesOn w (show_found w o)
-  show_on w None = tt
-  show_on w (Some p) = begins_none w w 0 (same w)
+  show_on : (w : World) (n : Naming) → GoesOn w (show_found w n)
+  show_on w NeverMade = tt
+  show_on w (Deleted p) = begins_none w w 0 (same w)
+  show_on w (There p) = begins_none w w 0 (same w)
 
-  reads_on : (w : World) (line : ScriptGroup → ReportLine) (o : Option (Placed ScriptGroup)) → GoesOn w (reads w line o)
-  reads_on w line None = tt
-  reads_on w line (Some p) = begins_none w w 0 (same w)
+  reads_on : (w : World) (line : ScriptGroup → ReportLine) (n : Naming) → GoesOn w (reads w line n)
+  reads_on w line NeverMade = tt
+  reads_on w line (Deleted p) = begins_none w w 0 (same w)
+  reads_on w line (There p) = begins_none w w 0 (same w)
 
-  member_on : (w : World) (o : Option (Placed ScriptGroup)) (host : ℕ) → GoesOn w (member_of w o host)
-  member_on w None host = tt
-  member_on w (Some p) host =
-      refused_or w (first_cause (host_causes w host)) 0 (goes (says w (member_referred p.value (host_no host) ∷ [])))
-      (begins_none w w 0 (same w))
+  member_on : (w : World) (n : Naming) (host : ℕ) → GoesOn w (member_of w n host)
+  member_on w NeverMade host = tt
+  member_on w (Deleted p) host = on_host_on w host (gone w) (same w)
+  member_on w (There p) host = on_host_on w host (says w (member_referred p.value (host_no host) ∷ [])) (same w)
 
   -- ---- what is made
 
@@ -614,22 +626,73 @@ module _ (T : Type 0) where
       one true = refl
       one false = let turned = go g (events.Crash (host_no i)) in omega (arith, turned)
 
-  group_on : (w : World) (name : List ℕ) (kind : KindWord) (style : Style) (members : List ℕ) → GoesOn w (group_line w name kind style members)
-  group_on w name kind style members =
-      let opens : ScriptGroup = opened (next_id w) name (kind_of kind) style members in
+  made_keeps : (w : World) (name : List ℕ) (kind : Kind) (style : Style) (members : List ℕ) (criteria : List Property) → Makes w (made_group w name kind style members criteria)
+  made_keeps w name kind style members criteria =
+      let opens : ScriptGroup = opened (next_id w) name kind style members in
       let g : ScriptGroup = new_group w name kind style members in
-      refused_or w (first_cause (group_causes w name members)) 0 (goes (made_group w name kind style members))
-      (begins_none w (with_group w g) 0 (record {
+      record {
         groups = λ all. all_push IsKept w.groups g all (stopped_kept 0 w.hosts opens refl);
         later = one_behind w.groups g;
         called = λ go none.
             let behind = one_behind_called w.groups g in
             let stops = stopped_called go 0 w.hosts opens in
-            let opening = none (next_id w) name (kind_of kind) style members in
+            let opening = none (next_id w) name kind style members in
             omega (arith, behind, stops, opening);
         clock = refl;
         few = λ lines f. f;
-      }))
+      }
+
+  group_on : (w : World) (name : List ℕ) (kind : KindWord) (style : Style) (members : List ℕ) → GoesOn w (group_line w name kind style members)
+  group_on w name kind style members =
+      let e : Effect = made_group w name (kind_of kind) style members (style_criteria style) in
+      refused_or w (first_cause (group_causes w name members)) 0 (goes e)
+      (begins_none w e.world e.calls (made_keeps w name (kind_of kind) style members (style_criteria style)))
+
+  created_keeps : (o : Option CreateFault) (w : World) (name : List ℕ) (kind : Kind) (criteria : List Property) → Makes w (created_unless o w name kind criteria)
+  created_keeps None w name kind criteria = made_keeps w name kind (style_in (in_full w.settings kind criteria)) [] criteria
+  created_keeps (Some why) w name kind criteria = same w
+
+  create_on : (w : World) (name : List ℕ) (kind : KindWord) (criteria : List Property) → GoesOn w (create_line w name kind criteria)
+  create_on w name kind criteria =
+      let e : Effect = created w name (kind_of kind) criteria in
+      refused_or w (first_cause (create_causes w name)) 0 (goes e)
+      (begins_none w e.world e.calls (created_keeps (refusal (in_full w.settings (kind_of kind) criteria) []) w name (kind_of kind) criteria))
+
+  -- what is set, and groups that are deleted: each group stays as it is
+  set_keeps : (w : World) (s : Settings) → Keeps w (with_settings w s) 0
+  set_keeps w s = untouched w (with_settings w s) refl refl (λ lines f. f)
+
+  delete_on : (w : World) (n : Naming) → GoesOn w (delete_found w n)
+  delete_on w NeverMade = tt
+  delete_on w (Deleted p) = begins_none w w 0 (same w)
+  delete_on w (There p) = begins_none w (without_group w p.value) 0 (set_keeps w (without_group w p.value).settings)
+
+  set_unless_keeps : (o : Option PropertyFault) (w : World) (s : Settings) → Makes w (set_unless o w s)
+  set_unless_keeps None w s = set_keeps w s
+  set_unless_keeps (Some why) w s = same w
+
+  set_unless_on : (o : Option PropertyFault) (w : World) (s : Settings) → GoesOn w (goes (set_unless o w s))
+  set_unless_on o w s = let e : Effect = set_unless o w s in begins_none w e.world e.calls (set_unless_keeps o w s)
+
+  set_on : (w : World) (level : Level) (p : Property) → GoesOn w (set_line w level p)
+  set_on w levels.Default p = set_unless_on _ w _
+  set_on w (levels.Type kind) p = set_unless_on _ w _
+
+  unset_on : (w : World) (level : Level) (name : List ℕ) → GoesOn w (unset_line w level name)
+  unset_on w levels.Default name = set_unless_on _ w _
+  unset_on w (levels.Type kind) name = set_unless_on _ w _
+
+  set_in_on : (w : World) (g : ScriptGroup) (p : Property) (o : Option Levels) → GoesOn w (goes (set_in w g p o))
+  set_in_on w g p None = begins_none w w 0 (same w)
+  set_in_on w g p (Some levels) = set_unless_on _ w _
+
+  set_group_on : (w : World) (o : Option (Placed ScriptGroup)) (p : Property) → GoesOn w (set_group_found w o p)
+  set_group_on w None p = tt
+  set_group_on w (Some g) p = set_in_on w g.value p (group_of w.settings.groups g.value.id.0)
+
+  get_group_on : (w : World) (o : Option (Placed ScriptGroup)) (name : List ℕ) → GoesOn w (get_group_found w o name)
+  get_group_on w None name = tt
+  get_group_on w (Some g) name = begins_none w w 0 (same w)
 
   client_on : (w : World) (name : List ℕ) → GoesOn w (client_line w name)
   client_on w name =
@@ -650,17 +713,27 @@ module _ (T : Type 0) where
   first_on : (w : World) (line : Line) → (T → IsTimely line) → GoesOn w (act_first w line)
   first_on w (lines.Hosts count) timely = hosts_on w count
   first_on w (lines.Group name kind style members) timely = group_on w name kind style members
+  first_on w (lines.Create name kind criteria) timely = create_on w name kind criteria
+  first_on w (lines.Delete name) timely = delete_on w (group_called w name)
+  first_on w (lines.Set level property) timely = set_on w level property
+  first_on w (lines.SetGroup group property) timely = set_group_on w (group_named w.groups group) property
+  first_on w (lines.Unset level name) timely = unset_on w level name
+  first_on w (lines.Get level name) timely = begins_none w w 0 (same w)
+  first_on w (lines.GetGroup group name) timely = get_group_on w (group_named w.groups group) name
   first_on w (lines.Client name) timely = client_on w name
-  first_on w (lines.Call client group op words) timely = call_on w client (group_named w.groups group) op words
+  first_on w (lines.Call client group op words) timely = call_on w client (group_called w group) op words
+  first_on w (lines.Bind client group) timely = bind_on w (client_named w client) (group_called w group) (found_one _ w.clients)
+  first_on w (lines.Timeout client) timely = timeout_on w (client_named w client) (found_one _ w.clients)
   first_on w (lines.Deliver number stop) timely = deliver_on w number stop (message_numbered w number)
   first_on w (lines.Tick ticks) timely = tick_on w ticks timely
-  first_on w (lines.Show name) timely = show_on w (group_named w.groups name)
-  first_on w (lines.Locations name) timely = reads_on w located (group_named w.groups name)
-  first_on w (lines.Id name) timely = reads_on w identified (group_named w.groups name)
-  first_on w (lines.Ref name) timely = reads_on w referred (group_named w.groups name)
-  first_on w (lines.MemberRef group host) timely = member_on w (group_named w.groups group) host
+  first_on w (lines.Show name) timely = show_on w (group_called w name)
+  first_on w (lines.Locations name) timely = reads_on w located (group_called w name)
+  first_on w (lines.Id name) timely = reads_on w identified (group_called w name)
+  first_on w (lines.Ref name) timely = reads_on w referred (group_called w name)
+  first_on w (lines.MemberRef group host) timely = member_on w (group_called w group) host
   first_on w (lines.Inject host bytes) timely = inject_on w host bytes
-  first_on w (lines.Change change group host) timely = change_on w (group_named w.groups group) change host (found_one _ w.groups)
+  first_on w (lines.Change change group host) timely = change_on w (group_called w group) change host (called_one w group)
+  first_on w (lines.Grow group host) timely = grow_on w (group_called w group) host (called_one w group)
   first_on w (lines.Crash host) timely = crash_on w host
   first_on w (lines.Restart host) timely = restart_on w host
 

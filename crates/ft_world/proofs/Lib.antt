@@ -1,10 +1,7 @@
-pub mod SendingLemmas
-pub mod TurnLemmas
-pub mod HostLemmas
-pub mod MemberLemmas
+pub mod PlaceLemmas
 pub mod ArriveLemmas
 pub mod CallLemmas
-pub mod MakingLemmas
+pub mod RetryingLemmas
 pub mod LinkLemmas
 pub mod PortLemmas
 pub mod KeptLemmas

@@ -52,8 +52,9 @@ use Rattle.script_world.specs.Worlds.{HasTurnAt, IsShortAt}
 use Rattle.ft_world.specs.Links.{answered_by, ask_group, asked_event, group_keyed, world_port}
 use Rattle.ft_world.specs.Printed.{gives_of}
 use Rattle.ft_world.specs.Serving.{AnsweredBy, AreInForm, Asks, IsAsked, IsChange, IsInForm, IsServed, IsWithin}
-use Rattle.ft_world.specs.Turns.{Effect, effect, says}
-use Rattle.ft_world.proofs.CallLemmas.{get_set, same_some}
+use Rattle.world_turns.specs.Turns.{Effect, effect, says}
+use Rattle.ft_world.proofs.CallLemmas.{get_set}
+use Rattle.ft_world.proofs.PlaceLemmas.{same_some}
 
 -- ---- forwards
 

@@ -1,5 +1,5 @@
 -- What a host makes of a link's messages, in a world.
-use Rattle.std.proofs.Common.{◌≡◌, ℕ, ◌+◌, ◌≤◌, Bool, true, List, [], ◌∷◌, ◌++◌, Option, Some, None, refl, sym, ap, subst, ◌∙◌, arith}
+use Rattle.std.proofs.Common.{◌≡◌, ℕ, ◌+◌, ◌≤◌, Bool, true, List, [], ◌∷◌, ◌++◌, Option, Some, None, refl, sym, ap, subst, ◌∙◌, arith, append-nil}
 use Rattle.std.specs.Prelude.{OnOk, Result, Ok, Err, not, if◌then◌else◌}
 use Rattle.fault_script.specs.declared.lines.LineFault.TheVariants.{Unknown}
 use Rattle.ft_base.specs.declared.memory.NoMemory.{NoMemory}
@@ -17,13 +17,12 @@ use Rattle.link_session.specs.declared.calls.Calling.{Calling}
 use Rattle.link_session.specs.declared.calls.Calling.TheVariants.{Ask, Locate, Nothing}
 use Rattle.script_groups.specs.Groups.{ScriptGroup, Placed}
 use Rattle.script_world.specs.World.{World, is_there, is_up}
-use Rattle.ft_world.specs.Answers.{HasDone, calls_of}
+use Rattle.world_turns.specs.Answers.{HasDone, calls_of}
 use Rattle.ft_world.specs.Links.{Asking, ask_group, asking, bytes_lines, end_line, group_keyed, inject_line, is_here, link_of, with_end, world_port}
 use Rattle.ft_world.specs.Serving.{Asks, Changes, IsAsked, IsChange, IsServed, IsWithin}
-use Rattle.ft_world.specs.Turns.{Effect, Turn, Goes, cause, effect, first_cause, goes, says, unless}
+use Rattle.world_turns.specs.Turns.{Effect, Turn, Goes, cause, effect, first_cause, goes, says, unless}
 use Rattle.ft_world.proofs.LinkLemmas.{calls_grow}
-use Rattle.ft_world.proofs.SendingLemmas.{none_more}
-use Rattle.ft_world.proofs.TurnLemmas.{acts_by}
+use Rattle.world_turns.specs.Doing.{acts_by}
 
 -- ---- a request for the object of a key
 
@@ -57,7 +56,7 @@ none_asked w host key asked report after now none are = record {
 
 pub written_is : (host : ℕ) (w : World) (lines : List ReportLine) (calls : ℕ) (bytes : Option (List ℕ)) →
     writes (world_port host) (effect w lines calls) bytes ≡ effect w (lines ++ bytes_lines bytes) calls
-written_is host w lines calls None = ap (λ (ls : List ReportLine). effect w ls calls) (sym (none_more lines))
+written_is host w lines calls None = ap (λ (ls : List ReportLine). effect w ls calls) (sym (append-nil lines))
 written_is host w lines calls (Some bytes) = ap (λ (n : ℕ). effect w (lines ++ reports.Bytes bytes ∷ []) n) (let same : calls + 0 ≡ calls = omega arith in same)
 
 pub writes_calls : (host : ℕ) (e : Effect) (bytes : Option (List ℕ)) → (writes (world_port host) e bytes).calls ≡ e.calls

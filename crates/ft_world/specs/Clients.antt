@@ -27,13 +27,14 @@ use Rattle.script_clients.specs.declared.answers.Call.{Call}
 use Rattle.script_clients.specs.Clients.{Client, Turn as Turned, taking}
 use Rattle.script_world.specs.declared.worlds.Begun.{Begun}
 use Rattle.script_world.specs.Worlds.{begin}
-use Rattle.script_groups.specs.Groups.{ScriptGroup, Placed, group_named, group_numbered, signature_of}
+use Rattle.script_groups.specs.Groups.{ScriptGroup, Placed, group_numbered, signature_of}
 use Rattle.script_groups.specs.References.{newest_reference}
 use Rattle.script_world.specs.declared.limits.TheConstants.{DEFAULT_LIFE}
 use Rattle.script_world.specs.declared.messages.Message.TheVariants as messages
 use Rattle.ft_world.specs.Printed.{shown_outcome}
 use Rattle.script_world.specs.World.{World, client_named, with_client, with_messages}
-use Rattle.ft_world.specs.Turns.{Effect, Turn, Refused, goes, says, saying}
+use Rattle.world_turns.specs.Naming.{Naming, NeverMade, Deleted, There, gone, group_called}
+use Rattle.world_turns.specs.Turns.{Effect, Turn, Refused, goes, says, saying}
 
 -- ---- what a client does
 
@@ -119,9 +120,19 @@ abbrev pub call_said : World → List ℕ → ScriptGroup → List ℕ → Resul
 call_said w client g op (Err why) = Refused why 0
 call_said w client g op (Ok said) = call_from w (client_named w client) g op said
 
-abbrev pub call_to : World → List ℕ → Option (Placed ScriptGroup) → List ℕ → List (List ℕ) → Turn
-call_to w client None op words = Refused Unknown 0
-call_to w client (Some g) op words = call_said w client g.value op (call_words_of (signature_of g.value op) words)
+-- a group that was deleted: its words are judged, and its client is looked for, first
+abbrev pub gone_for : World → Option (Placed Client) → Turn
+gone_for w None = Refused Unknown 0
+gone_for w (Some c) = goes (gone w)
+
+abbrev pub gone_said : World → List ℕ → Result CallWords LineFault → Turn
+gone_said w client (Err why) = Refused why 0
+gone_said w client (Ok said) = gone_for w (client_named w client)
+
+abbrev pub call_to : World → List ℕ → Naming → List ℕ → List (List ℕ) → Turn
+call_to w client NeverMade op words = Refused Unknown 0
+call_to w client (Deleted g) op words = gone_said w client (call_words_of (signature_of g.value op) words)
+call_to w client (There g) op words = call_said w client g.value op (call_words_of (signature_of g.value op) words)
 
 abbrev pub call_line : World → List ℕ → List ℕ → List ℕ → List (List ℕ) → Turn
-call_line w client group op words = call_to w client (group_named w.groups group) op words
+call_line w client group op words = call_to w client (group_called w group) op words

@@ -1,5 +1,5 @@
 -- `deliver K`: a message comes to its host or to its client.
-use Rattle.std.specs.Prelude.{ℕ, ◌+◌, List, [], ◌∷◌, length, slice_get, Option, Some, None}
+use Rattle.std.specs.Prelude.{ℕ, ◌+◌, if◌then◌else◌, List, [], ◌∷◌, length, slice_get, Option, Some, None}
 use Rattle.ft_base.specs.declared.decisions.Stop.{Stop}
 use Rattle.ft_base.specs.declared.numbers.GroupId.{GroupId}
 use Rattle.ft_base.specs.declared.numbers.HostNo.{HostNo}
@@ -30,11 +30,13 @@ use Rattle.script_world.specs.declared.messages.Message.{Message}
 use Rattle.script_world.specs.declared.messages.Message.TheVariants as messages
 use Rattle.script_world.specs.declared.messages.Reply.{Reply}
 use Rattle.ft_world.specs.Clients.{does}
-use Rattle.ft_world.specs.Hosts.{stopped}
+use Rattle.world_management.specs.Hosts.{stopped}
 use Rattle.ft_world.specs.Printed.{gives_of, shown}
-use Rattle.ft_world.specs.Sending.{all_carried, sent_lines}
-use Rattle.script_world.specs.World.{World, host_clock, message_numbered, with_client, with_event, with_messages}
-use Rattle.ft_world.specs.Turns.{Effect, Turn, Refused, costing, goes, says}
+use Rattle.world_turns.specs.Sending.{all_carried, sent_lines}
+use Rattle.script_world.specs.World.{World, host_clock, is_up, message_numbered, with_client, with_event, with_messages}
+use Rattle.host_server.specs.Replies.{no_group}
+use Rattle.world_turns.specs.Naming.{Naming, NeverMade, Deleted, There, group_with_number}
+use Rattle.world_turns.specs.Turns.{Effect, Turn, Refused, costing, goes, says}
 
 -- ---- a request comes to its host
 
@@ -78,11 +80,21 @@ answered w k a (group_answers.Reply decision None out) =
 answered w k a group_answers.Down = says w (reports.Lost k ∷ [])
 answered w k a other = says w []
 
+-- a request for a group that was deleted: a host that is up has no such object
+abbrev pub turned_away : World → ℕ → Asker → Effect
+turned_away w k a =
+    if is_up w a.host.0 then
+    says (with_messages w (messages.Reply (reply_to a (answers.System no_group)) ∷ []))
+    (reports.NoGroup a.host ∷ reports.Reply (length w.messages + 1) a.host a.client_name a.id (shown a.group_name a.gives (answers.System no_group)) ∷ [])
+    else says w (reports.Lost k ∷ [])
+
 -- to a group, from a client
-abbrev pub requested : World → ℕ → ℕ → HostNo → Attempt → Stop → Option (Placed ScriptGroup) → Option Client → Effect
-requested w k client host a stop None c = says w []
-requested w k client host a stop (Some g) None = says w []
-requested w k client host a stop (Some g) (Some c) =
+abbrev pub requested : World → ℕ → ℕ → HostNo → Attempt → Stop → Naming → Option Client → Effect
+requested w k client host a stop NeverMade c = says w []
+requested w k client host a stop (Deleted g) None = says w []
+requested w k client host a stop (Deleted g) (Some c) = turned_away w k (asker_of client host a g.value c)
+requested w k client host a stop (There g) None = says w []
+requested w k client host a stop (There g) (Some c) =
     let e = request_event w host a stop in
     costing (turn g.value e).calls (answered (with_event w g.place g.value e) k (asker_of client host a g.value c) (turn g.value e).answer)
 
@@ -131,9 +143,14 @@ came k name to index (group_answers.Ignored why) = reports.Ignored k why ∷ []
 came k name to index group_answers.Down = reports.Lost k ∷ []
 came k name to index other = []
 
-abbrev pub brought_to : World → ℕ → Out → Option (Placed ScriptGroup) → Effect
-brought_to w k out None = says w []
-brought_to w k out (Some g) =
+-- where its group was deleted
+abbrev pub late_line : World → ℕ → HostNo → ReportLine
+late_line w k to = if is_up w to.0 then reports.IgnoredDeleted k else reports.Lost k
+
+abbrev pub brought_to : World → ℕ → Out → Naming → Effect
+brought_to w k out NeverMade = says w []
+brought_to w k out (Deleted g) = says w (late_line w k out.to ∷ [])
+brought_to w k out (There g) =
     let t = turn g.value (brought out) in
     costing t.calls (says (with_event w g.place g.value (brought out)) (came k g.value.name out.to (index_of out.carried) t.answer))
 
@@ -141,9 +158,9 @@ brought_to w k out (Some g) =
 
 abbrev pub arrives : World → ℕ → Stop → Message → Effect
 arrives w k stop (messages.Request client host a) =
-    requested w k client host a stop (group_numbered w.groups a.group.0) (slice_get w.clients client)
+    requested w k client host a stop (group_with_number w a.group.0) (slice_get w.clients client)
 arrives w k stop (messages.Reply r) = heard_by w k r (slice_get w.clients r.client)
-arrives w k stop (messages.Carried group out) = brought_to w k out (group_numbered w.groups group.0)
+arrives w k stop (messages.Carried group out) = brought_to w k out (group_with_number w group.0)
 
 abbrev pub delivered : World → ℕ → Stop → Option Message → Turn
 delivered w k stop None = Refused Unknown 0

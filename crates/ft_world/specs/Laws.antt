@@ -14,7 +14,7 @@ use Rattle.group_model.specs.Views.{newest}
 use Rattle.script_groups.specs.Groups.{ScriptGroup, acted, common_of, entries_caught_up, entries_run, group_of, orders_applied, reply_of, servant_calls, turn, with_more}
 use Rattle.script_world.specs.World.{World, empty}
 use Rattle.ft_world.specs.Acts.{act}
-use Rattle.ft_world.specs.Turns.{Turn, Goes, Refused}
+use Rattle.world_turns.specs.Turns.{Turn, Goes, Refused}
 
 -- the world after some lines, up to the first that is refused
 abbrev pub or_stay : World → Turn → (World → World) → World

@@ -1,14 +1,9 @@
-pub mod Turns
-pub mod Making
-pub mod Sending
 pub mod Printed
 pub mod Clients
-pub mod Hosts
-pub mod Reading
+pub mod Retrying
 pub mod Delivering
 pub mod Links
 pub mod Lines
 pub mod Acts
-pub mod Answers
 pub mod Serving
 pub mod Laws

@@ -23,19 +23,20 @@ use Rattle.iogr_reference.specs.declared.references.Ior.{Ior}
 use Rattle.link_session.specs.Ports.{Port, linked}
 use Rattle.sys_faults.specs.declared.answers.Answer.{Answer}
 use Rattle.sys_faults.specs.declared.answers.Answer.TheVariants as answers
-use Rattle.script_groups.specs.Groups.{ScriptGroup, Placed, acted, group_numbered, knows_as_member, machine_of, turn}
+use Rattle.script_groups.specs.Groups.{ScriptGroup, Placed, acted, knows_as_member, machine_of, turn}
 use Rattle.script_groups.specs.References.{ior_at}
-use Rattle.ft_world.specs.Hosts.{host_causes}
+use Rattle.world_management.specs.Hosts.{host_causes}
 use Rattle.ft_world.specs.Printed.{gives_of}
-use Rattle.ft_world.specs.Sending.{all_carried, sent_lines}
+use Rattle.world_turns.specs.Sending.{all_carried, sent_lines}
 use Rattle.script_world.specs.World.{World, host_clock, is_up, with_event, with_messages}
-use Rattle.ft_world.specs.Turns.{Effect, Turn, effect, first_cause, goes, says, unless}
+use Rattle.world_turns.specs.Naming.{group_with_number, there_only}
+use Rattle.world_turns.specs.Turns.{Effect, Turn, effect, first_cause, goes, says, unless}
 
--- ---- the group that an object key names
+-- ---- the group that an object key names, if it is there
 
 abbrev pub group_by : World → Option GroupId → Option (Placed ScriptGroup)
 group_by w None = None
-group_by w (Some group) = group_numbered w.groups group.0
+group_by w (Some group) = there_only (group_with_number w group.0)
 
 abbrev pub group_keyed : World → List ℕ → Option (Placed ScriptGroup)
 group_keyed w key = group_by w (group_of_key key)

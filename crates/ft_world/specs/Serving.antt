@@ -17,7 +17,7 @@ use Rattle.sys_faults.specs.declared.answers.Answer.TheVariants as answers
 use Rattle.link_session.specs.Ports.{linked, ended}
 use Rattle.ft_world.specs.Links.{Asking, answered_by, asking, world_port}
 use Rattle.script_world.specs.World.{World}
-use Rattle.ft_world.specs.Turns.{Effect, effect, says}
+use Rattle.world_turns.specs.Turns.{Effect, effect, says}
 
 -- a change of the effects so far: the world is another, lines are added, and servant calls are counted
 pub record IsChange (change : Effect → Effect) (old new : World) (report later : List ReportLine) (before now : ℕ) : Type 0 where

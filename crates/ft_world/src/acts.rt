@@ -1,21 +1,24 @@
 ghost use Rattle.std.specs.Prelude.{◌≡◌, ℕ, ◌+◌, ◌≤◌, ◌^◌, OnOk};
 ghost use Rattle.ft_world.specs.Acts.{act, act_first};
-ghost use Rattle.ft_world.specs.Answers.{Acts, Did, IfRefused};
+ghost use Rattle.world_turns.specs.Answers.{Acts, Did, IfRefused};
 ghost use Rattle.ft_world.specs.Lines.{IsTimely};
 ghost use Rattle.script_world.specs.Sound.{HasActed, IsKeptWorld};
-ghost use Rattle.ft_world.specs.Turns.{first_cause, total_causes, totals_of};
+ghost use Rattle.world_turns.specs.Turns.{first_cause, total_causes, totals_of};
 
 use crate::calls::call_line;
 use crate::deliveries::deliver_line;
-use crate::hosts::{change_line, crash_line, restart_line, show_line};
 use crate::links::inject_line;
-use crate::making::{client_line, group_line, hosts_line, tick_line};
-use crate::reading::{id_line, locations_line, member_line, ref_line};
+use crate::retrying::{bind_line, timeout_line};
 use fault_script::{LimitName, Line, LineFault};
 use ft_base::Steps;
 use ft_report::ReportLines;
 use script_world::{ENTRY_LIMIT, MESSAGE_LIMIT, World};
 use std::sync::ledger::Ledger;
+use world_management::{
+    change_line, client_line, crash_line, create_line, delete_line, get_group_line, get_line,
+    group_line, grow_line, hosts_line, id_line, locations_line, member_line, ref_line,
+    restart_line, set_group_line, set_line, show_line, tick_line, unset_line,
+};
 
 // Time goes on by a number of 32 bits.
 fn is_timely(line: &Line)
@@ -44,6 +47,17 @@ fn act_first<L: Ledger>(
             style,
             members,
         } => group_line(world, name, kind, style, &members, steps),
+        Line::Create {
+            name,
+            kind,
+            criteria,
+        } => create_line(world, name, kind, &criteria, steps),
+        Line::Delete(name) => delete_line(world, &name),
+        Line::Set { level, property } => set_line(world, level, property),
+        Line::SetGroup { group, property } => set_group_line(world, &group, property),
+        Line::Unset { level, name } => unset_line(world, level, name),
+        Line::Get { level, name } => get_line(world, level, &name),
+        Line::GetGroup { group, name } => get_group_line(world, &group, &name),
         Line::Client(name) => client_line(world, name),
         Line::Call {
             client,
@@ -51,6 +65,8 @@ fn act_first<L: Ledger>(
             op,
             words,
         } => call_line(world, &client, &group, op, &words),
+        Line::Bind { client, group } => bind_line(world, &client, &group),
+        Line::Timeout(client) => timeout_line(world, &client),
         Line::Deliver { number, stop } => deliver_line(world, number, stop, steps),
         Line::Tick(ticks) => tick_line(world, ticks),
         Line::Show(name) => show_line(world, &name),
@@ -64,6 +80,7 @@ fn act_first<L: Ledger>(
             group,
             host,
         } => change_line(world, change, &group, host, steps),
+        Line::Grow { group, host } => grow_line(world, &group, host, steps),
         Line::Crash(host) => crash_line(world, host, steps),
         Line::Restart(host) => restart_line(world, host, steps),
     }

@@ -7,10 +7,10 @@ ghost use Rattle.script_groups.specs.References.{newest_reference};
 ghost use Rattle.script_world.specs.Sound.{IsKeptWorld};
 ghost use Rattle.script_world.specs.World.{client_named, with_client};
 ghost use Rattle.script_world.specs.Worlds.{CanStart};
-ghost use Rattle.ft_world.specs.Answers.{Acts, Does};
-ghost use Rattle.ft_world.specs.Clients.{adopted_lines, attempts, call_from, call_line, does, expiration_of, key_of, retention_of, started};
+ghost use Rattle.world_turns.specs.Answers.{Acts, Does};
+ghost use Rattle.world_turns.specs.Naming.{Deleted, There};
+ghost use Rattle.ft_world.specs.Clients.{call_to, gone_for, adopted_lines, attempts, call_from, call_line, does, expiration_of, key_of, retention_of, started};
 
-use crate::hosts::one_line;
 use crate::printing::shown_end;
 use fault_script::{CallWords, LineFault, Words, call_words};
 use ft_base::{GroupId, Key, Name, NoMemory, Par, Request, Retention, Tick, Version};
@@ -19,6 +19,7 @@ use group_references::host_at;
 use iogr_reference::GroupRef;
 use script_clients::{Attempt, ScriptClient, Told};
 use script_world::{Begun, DEFAULT_LIFE, Message, World};
+use world_turns::{Named, gone, group_called, one_line};
 
 fn retention_of(client: &ScriptClient, retention: Option<Retention>) -> Retention
     requires { CanStart client.now }
@@ -240,6 +241,58 @@ fn call_from(
     }
 }
 
+// The words after the operation of a group that was deleted were read.
+fn gone_for(world: &World, client: &Name) -> Result<ReportLines, LineFault>
+    ensures { (calls : ℕ) → Acts (gone_for world.now (client_named world.now client.now)) result world.now world.now calls calls }
+{
+    match world.client_place(client) {
+        Some(_) => gone(world),
+        None => Err(LineFault::Unknown),
+    }
+}
+
+// A call of the group at this place, which was deleted.
+fn call_gone(
+    world: &World,
+    client: &Name,
+    group: usize,
+    op: &Name,
+    words: &Words,
+) -> Result<ReportLines, LineFault>
+    requires group { group < length world.now.groups }
+    requires kept { IsKeptWorld world.now }
+    ensures { (g : Group) (calls : ℕ) → slice_get world.now.groups group ≡ Some g →
+        Acts (call_to world.now client.now (Deleted (placed group g)) op.now words.now) result world.now world.now calls calls }
+{
+    let signature = world.group(group).signature(op);
+    match call_words(world.alloc(), signature, words) {
+        Ok(_said) => gone_for(world, client),
+        Err(why) => Err(why),
+    }
+}
+
+// A call of the group at this place.
+fn call_there(
+    world: &mut World,
+    client: &Name,
+    group: usize,
+    op: Name,
+    words: &Words,
+) -> Result<ReportLines, LineFault>
+    requires group { group < length world.old.groups }
+    requires clock { world.old.clock ≤ 2 ^ 63 }
+    requires few { All CanStart world.old.clients }
+    requires kept { IsKeptWorld world.old }
+    ensures { (g : Group) (calls : ℕ) → slice_get world.old.groups group ≡ Some g →
+        Acts (call_to world.old client.now (There (placed group g)) op words.now) result world.old world.new calls calls }
+{
+    let signature = world.group(group).signature(&op);
+    match call_words(world.alloc(), signature, words) {
+        Ok(said) => call_from(world, client, group, op, said),
+        Err(why) => Err(why),
+    }
+}
+
 /// `call C G OP ARG.. OPTION..`
 pub(crate) fn call_line(
     world: &mut World,
@@ -253,13 +306,9 @@ pub(crate) fn call_line(
     requires kept { IsKeptWorld world.old }
     ensures { (calls : ℕ) → Acts (call_line world.old client.now group.now op words.now) result world.old world.new calls calls }
 {
-    let place = match world.group_place(group) {
-        Some(place) => place,
-        None => return Err(LineFault::Unknown),
-    };
-    let signature = world.group(place).signature(&op);
-    match call_words(world.alloc(), signature, words) {
-        Ok(said) => call_from(world, client, place, op, said),
-        Err(why) => Err(why),
+    match group_called(world, group) {
+        Named::Never => Err(LineFault::Unknown),
+        Named::Deleted(place) => call_gone(world, client, place, &op, words),
+        Named::There(place) => call_there(world, client, place, op, words),
     }
 }

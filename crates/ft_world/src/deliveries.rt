@@ -5,28 +5,31 @@ ghost use Rattle.ft_base.specs.declared.limits.TheConstants.{HOST_LIMIT};
 ghost use Rattle.group_model.specs.Agreeing.{IsShortAsked};
 ghost use Rattle.group_model.specs.Sending.{brought, sent_by};
 ghost use Rattle.group_model.specs.declared.events.Out.{Out as AnOut};
-ghost use Rattle.script_groups.specs.Groups.{ScriptGroup as Group, group_numbered};
-ghost use Rattle.ft_world.specs.Answers.{Acts, Does};
-ghost use Rattle.ft_world.specs.Delivering.{answered, arrives, asked_by, asker_of, brought_to, came, deliver_line, heard_by, heard_of, held, index_of, redirected_to, reply_to, requested};
+ghost use Rattle.script_groups.specs.Groups.{ScriptGroup as Group, group_numbered, placed};
+ghost use Rattle.world_turns.specs.Answers.{Acts, Does};
+ghost use Rattle.ft_world.specs.Delivering.{answered, arrives, asked_by, asker_of, brought_to, came, deliver_line, heard_by, heard_of, held, index_of, late_line, redirected_to, reply_to, requested, turned_away};
+ghost use Rattle.host_server.specs.Replies.{no_group};
+ghost use Rattle.ft_base.specs.declared.decisions.Stop.{Stop as AStop};
+ghost use Rattle.script_groups.specs.Acting.{MayCome};
+ghost use Rattle.world_turns.specs.Naming.{Deleted, There, group_with_number};
 ghost use Rattle.ft_world.specs.Printed.{gives_of, shown};
-ghost use Rattle.ft_world.specs.Sending.{carried};
+ghost use Rattle.world_turns.specs.Sending.{carried};
 ghost use Rattle.script_world.specs.Sound.{IsKeptWorld, IsOnItsWay};
 
 use crate::calls::does;
-use crate::hosts::one_line;
 use crate::printing::{gives_of, shown};
-use crate::sending::send_all;
 use cdr_codec::{Order, Raw};
 use client_retry::Heard;
 use fault_script::LineFault;
 use ft_base::{Decision, GroupId, HostNo, Name, NoMemory, Par, Request, Steps, Stop, Version};
-use ft_report::{ReportLine, ReportLines};
+use ft_report::{ReportLine, ReportLines, ReportOutcome};
 use group_model::{Asked, Event, GroupAnswer, Inner, Out, OutList};
 use script_clients::Attempt;
 use script_world::{Message, Reply, World};
 use std::alloc::Global;
 use std::sync::ledger::Ledger;
-use sys_faults::Answer;
+use sys_faults::{Answer, Completed, SysFault, SysKind};
+use world_turns::{Named, group_with_number, one_line, send_all};
 
 /// Whom a request is from, where it came, and how its reply is printed.
 #[derive(Drop)]
@@ -331,25 +334,94 @@ fn who_asks(
     }))
 }
 
-// A request comes to its host.
-fn arrive<L: Ledger>(
+fn no_group() -> SysFault
+    ensures { result ≡ no_group }
+{
+    SysFault {
+        kind: SysKind::ObjectNotExist,
+        minor: 1,
+        completed: Completed::No,
+    }
+}
+
+// What is printed of a request that was turned away.
+fn turned_away_report(alloc: Global, asker: &Asker, message: u64) -> Result<ReportLines, NoMemory>
+    ensures { IfOk result (λ report. report ≡
+        ReportLine.NoGroup asker.now.host
+        ∷ ReportLine.Reply message asker.now.host asker.now.client_name asker.now.id (shown asker.now.group_name asker.now.gives (Answer.System no_group)) ∷ []) }
+{
+    let mut report = ReportLines::new(alloc);
+    report.push(ReportLine::NoGroup { host: asker.host })?;
+    let client = asker.client_name.copy(alloc)?;
+    report.push(ReportLine::Reply {
+        message,
+        host: asker.host,
+        client,
+        id: asker.id,
+        shown: ReportOutcome::System(no_group()),
+    })?;
+    Ok(report)
+}
+
+// A request for a group that was deleted comes to its host.
+fn turn_away(world: &mut World, number: u64, asker: Asker) -> Result<ReportLines, NoMemory>
+    ensures { (calls : ℕ) → Does (turned_away world.old number asker) result world.new calls calls }
+{
+    if !world.is_up(asker.host) {
+        return one_line(world.alloc(), ReportLine::Lost { message: number });
+    }
+    let message = world.message_count() as u64 + 1;
+    let report = turned_away_report(world.alloc(), &asker, message)?;
+    world.send(Message::Reply(Reply {
+        client: asker.client,
+        group: asker.group,
+        host: asker.host,
+        id: asker.id,
+        answer: Answer::System(no_group()),
+        gives: asker.gives,
+    }))?;
+    Ok(report)
+}
+
+// A request for the group at this place, which was deleted, comes to its host.
+fn arrive_late(
+    world: &mut World,
+    number: u64,
+    client: usize,
+    host: HostNo,
+    attempt: &Attempt,
+    place: usize,
+) -> Result<ReportLines, NoMemory>
+    requires within { place < length world.old.groups }
+    requires kept { IsKeptWorld world.old }
+    ensures { (g : Group) (stop : AStop) (calls : ℕ) → slice_get world.old.groups place ≡ Some g →
+        Does (requested world.old number client host attempt.now stop (Deleted (placed place g)) (slice_get world.old.clients client)) result world.new calls calls }
+{
+    match who_asks(world, client, host, attempt, place)? {
+        Some(asker) => turn_away(world, number, asker),
+        None => Ok(ReportLines::new(world.alloc())),
+    }
+}
+
+// A request for the group at this place comes to its host.
+fn arrive_at<L: Ledger>(
     world: &mut World,
     number: u64,
     client: usize,
     host: HostNo,
     attempt: Attempt,
+    place: usize,
     stop: Stop,
     steps: &mut Steps<L>,
 ) -> Result<ReportLines, NoMemory>
+    requires within { place < length world.old.groups }
     requires host { host.0 < HOST_LIMIT }
     requires kept { IsKeptWorld world.old }
-    ensures { Does (requested world.old number client host attempt stop (group_numbered world.old.groups attempt.group.0) (slice_get world.old.clients client))
+    ensures { (g : Group) → slice_get world.old.groups place ≡ Some g →
+        Does (requested world.old number client host attempt stop (There (placed place g)) (slice_get world.old.clients client))
         result world.new steps.old steps.new }
 {
     let alloc = world.alloc();
-    let Some(place) = world.numbered_place(attempt.group) else {
-        return Ok(ReportLines::new(alloc));
-    };
     let Some(asker) = who_asks(world, client, host, &attempt, place)? else {
         return Ok(ReportLines::new(alloc));
     };
@@ -365,6 +437,65 @@ fn arrive<L: Ledger>(
     }
 }
 
+// A request comes to its host.
+fn arrive<L: Ledger>(
+    world: &mut World,
+    number: u64,
+    client: usize,
+    host: HostNo,
+    attempt: Attempt,
+    stop: Stop,
+    steps: &mut Steps<L>,
+) -> Result<ReportLines, NoMemory>
+    requires host { host.0 < HOST_LIMIT }
+    requires kept { IsKeptWorld world.old }
+    ensures { Does (requested world.old number client host attempt stop (group_with_number world.old attempt.group.0) (slice_get world.old.clients client))
+        result world.new steps.old steps.new }
+{
+    match group_with_number(world, attempt.group) {
+        Named::Never => Ok(ReportLines::new(world.alloc())),
+        Named::Deleted(place) => arrive_late(world, number, client, host, &attempt, place),
+        Named::There(place) => {
+            arrive_at(world, number, client, host, attempt, place, stop, steps)
+        }
+    }
+}
+
+// What is printed where a message comes for a group that was deleted.
+fn late_line(world: &World, number: u64, to: HostNo) -> ReportLine
+    ensures { result ≡ late_line world.now number to }
+{
+    if world.is_up(to) {
+        ReportLine::IgnoredDeleted { message: number }
+    } else {
+        ReportLine::Lost { message: number }
+    }
+}
+
+// What one host of the group at this place sent comes to another.
+fn bring_at<L: Ledger>(
+    world: &mut World,
+    number: u64,
+    place: usize,
+    out: Out,
+    steps: &mut Steps<L>,
+) -> Result<ReportLines, NoMemory>
+    requires within { place < length world.old.groups }
+    requires may { (g : Group) → slice_get world.old.groups place ≡ Some g → MayCome g (brought out) }
+    requires kept { IsKeptWorld world.old }
+    ensures { (g : Group) → slice_get world.old.groups place ≡ Some g →
+        Does (brought_to world.old number out (There (placed place g))) result world.new steps.old steps.new }
+{
+    let alloc = world.alloc();
+    let name = world.group(place).name().copy(alloc)?;
+    let host = out.to;
+    let index = index_of(&out.carried);
+    match world.event_at(place, brought(out), steps) {
+        GroupAnswer::NoMemory => Err(NoMemory),
+        answer => came(alloc, number, name, host, index, answer),
+    }
+}
+
 // What one host sent comes to another.
 fn bring<L: Ledger>(
     world: &mut World,
@@ -375,18 +506,12 @@ fn bring<L: Ledger>(
 ) -> Result<ReportLines, NoMemory>
     requires comes { IsOnItsWay world.old.groups (Message.Carried group out) }
     requires kept { IsKeptWorld world.old }
-    ensures { Does (brought_to world.old number out (group_numbered world.old.groups group.0)) result world.new steps.old steps.new }
+    ensures { Does (brought_to world.old number out (group_with_number world.old group.0)) result world.new steps.old steps.new }
 {
-    let alloc = world.alloc();
-    let Some(place) = world.numbered_place(group) else {
-        return Ok(ReportLines::new(alloc));
-    };
-    let name = world.group(place).name().copy(alloc)?;
-    let host = out.to;
-    let index = index_of(&out.carried);
-    match world.event_at(place, brought(out), steps) {
-        GroupAnswer::NoMemory => Err(NoMemory),
-        answer => came(alloc, number, name, host, index, answer),
+    match group_with_number(world, group) {
+        Named::Never => Ok(ReportLines::new(world.alloc())),
+        Named::Deleted(_) => one_line(world.alloc(), late_line(world, number, out.to)),
+        Named::There(place) => bring_at(world, number, place, out, steps),
     }
 }
 

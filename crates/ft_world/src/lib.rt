@@ -5,13 +5,10 @@
 mod acts;
 mod calls;
 mod deliveries;
-mod hosts;
 mod laws;
 mod links;
-mod making;
 mod printing;
-mod reading;
-mod sending;
+mod retrying;
 
 pub use acts::act;
 pub use laws::{

@@ -15,15 +15,13 @@ ghost use Rattle.group_model.specs.Asking.{signature_asked};
 ghost use Rattle.group_model.specs.Sending.{sent_by};
 ghost use Rattle.script_world.specs.Sound.{IsKeptWorld, IsOnItsWay};
 ghost use Rattle.script_world.specs.Worlds.{IsPlace};
-ghost use Rattle.ft_world.specs.Answers.{Acts, Does};
+ghost use Rattle.world_turns.specs.Answers.{Acts, Does};
 ghost use Rattle.ft_world.specs.Links.{ask_group, bytes_lines, end_line, forward_by, group_keyed, inject_line, is_here, link_of, port_answer, world_port};
 ghost use Rattle.ft_world.specs.Printed.{gives_of};
-ghost use Rattle.ft_world.specs.Sending.{carried};
+ghost use Rattle.world_turns.specs.Sending.{carried};
 ghost use Rattle.ft_world.specs.Serving.{AnsweredBy, AreInForm, Asks, Changes, IsInForm, Served};
 
-use crate::hosts::one_line;
 use crate::printing::gives_of;
-use crate::sending::send_all;
 use cdr_codec::Order;
 use fault_script::LineFault;
 use ft_base::{Bytes, Decision, GroupId, HostNo, Name, NoMemory, Par, Steps, Stop, Version};
@@ -41,6 +39,7 @@ use script_world::World;
 use std::alloc::Global;
 use std::sync::ledger::Ledger;
 use sys_faults::Answer;
+use world_turns::{Named, group_with_number, one_line, send_all};
 
 fn push_bytes(bytes: Option<Bytes>, report: &mut ReportLines) -> Result<(), NoMemory>
     ensures { OnOk result (report.new ≡ report.old ++ bytes_lines bytes) }
@@ -73,12 +72,15 @@ fn gives_asked(world: &World, place: usize, op: &Option<Name>) -> Option<Par>
     }
 }
 
+// The place of the group that a key names, if it is there.
 fn keyed_place(world: &World, key: &Bytes) -> Option<usize>
     ensures { IsPlace (group_keyed world.now key.now) world.now.groups result }
 {
-    match group_of_key(key.bytes()) {
-        Some(group) => world.numbered_place(group),
-        None => None,
+    let group = group_of_key(key.bytes())?;
+    match group_with_number(world, group) {
+        Named::There(place) => Some(place),
+        Named::Deleted(_) => None,
+        Named::Never => None,
     }
 }
 

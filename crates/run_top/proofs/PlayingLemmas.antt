@@ -4,9 +4,9 @@ use Rattle.std.specs.List.{AllByRecursion}
 use Rattle.fault_script.specs.declared.lines.Line.{Line}
 use Rattle.fault_script.specs.declared.lines.LineFault.{LineFault}
 use Rattle.fault_script.specs.declared.lines.LineFault.TheVariants.{Syntax, Unknown, Again, Limit, Later, NoMemory}
-use Rattle.ft_world.specs.Answers as world_answers
-use Rattle.ft_world.specs.Answers.{DidNot}
-use Rattle.ft_world.specs.Turns as world
+use Rattle.world_turns.specs.Answers as world_answers
+use Rattle.world_turns.specs.Answers.{DidNot}
+use Rattle.world_turns.specs.Turns as world
 use Rattle.script_pieces.specs.Feeds.{IsActed}
 use Rattle.script_pieces.specs.Runs.{calls_of}
 use Rattle.script_clients.specs.Clients.{Client}

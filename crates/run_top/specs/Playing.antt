@@ -7,7 +7,7 @@ use Rattle.fault_script.specs.declared.lines.LineFault.{LineFault}
 use Rattle.fault_script.specs.declared.lines.LineFault.TheVariants.{Limit}
 use Rattle.ft_report.specs.Report.{report_text}
 use Rattle.ft_world.specs.Acts.{act}
-use Rattle.ft_world.specs.Turns as world
+use Rattle.world_turns.specs.Turns as world
 use Rattle.script_world.specs.Sound.{HasActed, IsKeptWorld}
 use Rattle.script_world.specs.World.{World}
 use Rattle.fault_script.specs.declared.lines.LineFault.TheVariants as faults

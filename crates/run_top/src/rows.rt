@@ -164,8 +164,8 @@ const ROWS: [Row; 19] = [
     },
 ];
 
-// Scripts whose groups have other than one member, or whose hosts stop.
-const MEMBERS: [Row; 8] = [
+// Scripts whose groups have other than one member, are made by properties or are deleted, or whose hosts stop.
+const MEMBERS: [Row; 10] = [
     // The primary stops between its append and the servant. The next member runs the entry, once, and answers the
     // client, whom the old primary sends there.
     Row {
@@ -216,6 +216,20 @@ const MEMBERS: [Row; 8] = [
         out: b"group g1 1\nview g1 1 members - primary -\ngroup g2 2\nview g2 1 members - primary -\ngroup g3 3\nview g3 1 members - primary -\ngroup g6 4\nview g6 1 members 1,0 primary 1\nlocations g3 -\nlocations g6 1,0\nid g6 4\nref g6 IOR:000000000000001449444c3a6674632f4163636f756e743a312e3000000000020000000000000056000102000000000a3132372e302e302e310007d10000000c46544f470000000000000004000000020000001b0000001c000100000000000466746300000000000000000000000004000000010000001c0000000200010000000000000000004c000102000000000a3132372e302e302e310007d00000000c46544f470000000000000004000000010000001b0000001c00010000000000046674630000000000000000000000000400000001\nmember-ref g6 1 IOR:000000000000001449444c3a6674632f4163636f756e743a312e3000000000010000000000000028000102000000000a3132372e302e302e310007d10000000c46544f47000000000000000400000000\nrefused MemberNotFound 2\n",
         err: b"",
     },
+    // The levels of a property: a group keeps what it took; and what is refused.
+    Row {
+        script: b"hosts 1\nset default org.omg.ft.CheckpointInterval 50\nset type account org.omg.ft.CheckpointInterval 60\ncreate g account org.omg.ft.CheckpointInterval=70\nget group g org.omg.ft.CheckpointInterval\nset group g org.omg.ft.CheckpointInterval 80\nget group g org.omg.ft.CheckpointInterval\nunset type account org.omg.ft.CheckpointInterval\ncreate h account\nget group h org.omg.ft.CheckpointInterval\nset default org.omg.ft.Nothing 1\nset default org.omg.ft.ReplicationStyle STATELESS\n",
+        status: 0,
+        out: b"group g 1\nview g 1 members - primary -\nproperty org.omg.ft.CheckpointInterval 70\nproperty org.omg.ft.CheckpointInterval 80\ngroup h 2\nview h 1 members - primary -\nproperty org.omg.ft.CheckpointInterval 50\nrefused InvalidProperty 0\nrefused UnsupportedProperty 0\n",
+        err: b"",
+    },
+    // A member that its host's factory makes, a group that is deleted, and criteria that can't be met.
+    Row {
+        script: b"hosts 2\ncreate bank account org.omg.ft.Factories=0\ngrow bank 0\ngrow bank 1\nclient ann\ncall ann bank deposit 5\ndelete bank\ndeliver 1\ndeliver 2\ndeliver 3\nshow bank\ngrow bank 0\ncall ann bank deposit 1\ncreate jobs queue org.omg.ft.MinimumNumberReplicas=2\ncreate jobs queue\n",
+        status: 0,
+        out: b"group bank 1\nview bank 1 members - primary -\nview bank 2 members 0 primary 0\nmsg 1 manager to host 0 view bank 2\nrefused NoFactory 1\nmsg 2 client ann to host 0 request 1\ndeleted bank\nignored 1 deleted\nat 0 - nogroup\nmsg 3 host 0 to client ann reply 1 system OBJECT_NOT_EXIST 1 no\ndone ann 1 system OBJECT_NOT_EXIST 1 no\nrefused ObjectGroupNotFound\nrefused ObjectGroupNotFound\nrefused ObjectGroupNotFound\nrefused CannotMeetCriteria 1 2\ngroup jobs 2\nview jobs 1 members - primary -\n",
+        err: b"",
+    },
     // A group without members has no reference that a client could go by.
     Row {
         script: b"hosts 1\ngroup bank account cold\nclient ann\ncall ann bank deposit 5\nshow bank\n",
@@ -225,8 +239,40 @@ const MEMBERS: [Row; 8] = [
     },
 ];
 
+// Scripts with clients that try again.
+const RETRIES: [Row; 4] = [
+    // A client whose attempt timed out finds the new primary, and its request was accepted.
+    Row {
+        script: b"hosts 2\ngroup bank account cold 0 1\nclient ann\ncall ann bank deposit 5\ndeliver 1 crash append\nreport bank 0\ndeliver 3\ntimeout ann\ndeliver 4\ndeliver 5\ndeliver 6\n",
+        status: 0,
+        out: b"group bank 1\nview bank 1 members 0,1 primary 0\nmsg 1 client ann to host 0 request 1\nat 0 bank append 0\ndown 0\nview bank 2 members 1 primary 1\nmsg 2 manager to host 0 view bank 2\nmsg 3 manager to host 1 view bank 2\nknown 1 bank 2\nmsg 4 client ann to host 1 request 2\nat 1 bank older 1 2\nmsg 5 host 1 to client ann reply 2 forward-perm bank 2\nadopt ann bank 2\nmsg 6 client ann to host 1 request 3\nat 1 bank repeat 0\nmsg 7 host 1 to client ann reply 3 value 5\n",
+        err: b"",
+    },
+    // A false suspicion: the deposed primary runs nothing; two clients are bound.
+    Row {
+        script: b"hosts 2\ngroup bank account cold 0 1\nclient ann\nclient bob\nbind ann bank\nbind bob bank\nreport bank 0\ncall ann bank deposit 5 nover\ncall bob bank deposit 7\ndeliver 3\ndeliver 4\nshow bank\n",
+        status: 0,
+        out: b"group bank 1\nview bank 1 members 0,1 primary 0\nbound ann bank 1\nbound bob bank 1\nview bank 2 members 1 primary 1\nmsg 1 manager to host 0 view bank 2\nmsg 2 manager to host 1 view bank 2\nmsg 3 client ann to host 0 request 1\nmsg 4 client bob to host 0 request 1\nat 0 bank deposed 1 2\nmsg 5 host 0 to client ann reply 1 forward-perm bank 2\nat 0 bank older 1 2\nmsg 6 host 0 to client bob reply 1 forward-perm bank 2\nshow bank view 2 entries 0 mark 0 time 0\nmember 1 primary known 1 blank\nmember 0 former known 2 at 0 state 0000000000000000\n",
+        err: b"",
+    },
+    // A client that is bound goes by the reference that it took.
+    Row {
+        script: b"hosts 2\ngroup bank account cold 0 1\nclient ann\nbind ann bank\nprimary bank 1\ncall ann bank deposit 5\ndeliver 3\ndeliver 4\ndeliver 5\ndeliver 6\n",
+        status: 0,
+        out: b"group bank 1\nview bank 1 members 0,1 primary 0\nbound ann bank 1\nview bank 2 members 0,1 primary 1\nmsg 1 manager to host 0 view bank 2\nmsg 2 manager to host 1 view bank 2\nmsg 3 client ann to host 0 request 1\nat 0 bank deposed 1 2\nmsg 4 host 0 to client ann reply 1 forward-perm bank 2\nadopt ann bank 2\nmsg 5 client ann to host 1 request 2\nat 1 bank append 0\nmsg 6 host 1 to client ann reply 2 value 5\ndone ann 1 value 5\n",
+        err: b"",
+    },
+    // A client gives up at the third fault for each member, and where its request has expired; then it is idle.
+    Row {
+        script: b"hosts 2\ngroup bank account cold 0 1\nclient ann\ncall ann bank deposit 5\ntimeout ann\ntimeout ann\ntimeout ann\ntimeout ann\ntimeout ann\ntimeout ann\ncall ann bank deposit 5 exp=10\ntick 10\ntimeout ann\ntimeout ann\n",
+        status: 0,
+        out: b"group bank 1\nview bank 1 members 0,1 primary 0\nmsg 1 client ann to host 0 request 1\nmsg 2 client ann to host 1 request 2\nmsg 3 client ann to host 0 request 3\nmsg 4 client ann to host 1 request 4\nmsg 5 client ann to host 0 request 5\nmsg 6 client ann to host 1 request 6\ndone ann 1 system TRANSIENT 1 maybe faults 6 profiles 2\nmsg 7 client ann to host 0 request 7\ndone ann 2 system NO_RESPONSE 1 maybe exp 10 now 10\nidle ann\n",
+        err: b"",
+    },
+];
+
 // Scripts, each with the line that is refused and why, or with no error text.
-const REFUSALS: [(&[u8], &[u8]); 26] = [
+const REFUSALS: [(&[u8], &[u8]); 29] = [
     (b"hosts 64\n", b""),
     (b"hosts 65\n", b"ftc: line 1: limit hosts\n"),
     (
@@ -262,7 +308,16 @@ const REFUSALS: [(&[u8], &[u8]); 26] = [
         b"hosts 1\ngroup g account cold 0\nmember g 10000000000000000000\n",
         b"ftc: line 3: unknown\n",
     ),
-    (b"timeout ann\n", b"ftc: line 1: later\n"),
+    (b"poll bank\n", b"ftc: line 1: later\n"),
+    (
+        b"set default org.omg.ft.ReplicationStyle ACTIVE\n",
+        b"ftc: line 1: later\n",
+    ),
+    (
+        b"create g account\ndelete g\ncreate g account\n",
+        b"ftc: line 3: again\n",
+    ),
+    (b"grow bank 0\n", b"ftc: line 1: unknown\n"),
     (
         b"hosts 1\ngroup g account cold x\n",
         b"ftc: line 2: syntax\n",
@@ -389,6 +444,11 @@ fn scripts_write_their_output(rt: HostRuntime) -> Result<(), NoMemory> {
 #[test]
 fn members_take_over(rt: HostRuntime) -> Result<(), NoMemory> {
     each_row::<Brand>(&rt, rt.alloc(), &MEMBERS, Blank::new(1))
+}
+
+#[test]
+fn clients_try_again(rt: HostRuntime) -> Result<(), NoMemory> {
+    each_row::<Brand>(&rt, rt.alloc(), &RETRIES, Blank::new(1))
 }
 
 fn each_end<L: Ledger>(rt: &impl Abort, alloc: Global, blank: Blank) -> Result<(), NoMemory>

@@ -1,3 +1,4 @@
 pub mod Places
+pub mod SettingsLemmas
 pub mod SoundLemmas
 pub mod Loops

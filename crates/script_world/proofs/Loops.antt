@@ -1,10 +1,9 @@
 -- A list of which each element is changed, one after another.
-use Rattle.std.proofs.Common.{◌≡◌, ℕ, zero, suc, ◌+◌, ◌<◌, arith, List, [], ◌∷◌, ◌++◌, length, take, drop, get_or, Some, refl, sym, ap, subst, ◌∙◌, inl, inr}
+use Rattle.std.proofs.Common.{◌≡◌, ℕ, zero, suc, ◌+◌, ◌<◌, arith, List, [], ◌∷◌, ◌++◌, length, take, drop, get_or, Some, refl, sym, ap, ◌∙◌, inl, inr}
 use Rattle.std.specs.Prelude.{map, slice_get, slice_set}
-use Rattle.std.proofs.lemmas.Option.{slice_get_read}
 use Rattle.group_model.specs.declared.events.Event.{Event}
 use Rattle.script_groups.specs.Acting.{poisoned}
-use Rattle.script_groups.specs.Groups.{ScriptGroup, acted, all_acted}
+use Rattle.script_groups.specs.Groups.{ScriptGroup, acted}
 use Rattle.script_world.specs.Worlds.{AreOrHave}
 
 module _ {A : Type 0} (f : A → A) where

@@ -1,6 +1,6 @@
 -- What every world keeps, through each small change of it.
-use Rattle.std.proofs.Common.{◌≡◌, ℕ, zero, suc, ◌+◌, ◌<◌, ◌≤◌, arith, Bool, true, false, cond, List, [], ◌∷◌, ◌++◌, length, Option, Some, None, refl, sym, ap, subst, ◌∙◌, ◌⊎◌, inl, inr}
-use Rattle.std.specs.Prelude.{slice_get, slice_set, map, option_map}
+use Rattle.std.proofs.Common.{◌≡◌, ℕ, zero, suc, ◌+◌, ◌<◌, ◌≤◌, arith, Bool, true, false, cond, List, [], ◌∷◌, ◌++◌, length, Option, Some, None, refl, sym, ap, subst, ◌∙◌, inl, inr}
+use Rattle.std.specs.Prelude.{slice_get, slice_set, map, option_map, Result, Ok, Err}
 use Rattle.std.specs.List.{AllByRecursion}
 use Rattle.ft_base.specs.declared.limits.TheConstants.{HOST_LIMIT}
 use Rattle.group_model.specs.declared.events.Event.{Event}
@@ -12,6 +12,10 @@ use Rattle.group_model.specs.declared.events.Out.{Out}
 use Rattle.ft_base.specs.declared.numbers.HostNo.{HostNo}
 use Rattle.group_model.specs.Laws.{Lasts}
 use Rattle.group_model.specs.Sending.{brought, brought_to_host, sent_by}
+use Rattle.property_manager.specs.declared.effective.Levels.{Levels}
+use Rattle.property_manager.specs.declared.faults.PropertyFault.{PropertyFault}
+use Rattle.property_manager.specs.declared.settings.Property.{Property}
+use Rattle.property_manager.specs.Groups.{IsSetFor, Settings, dropped, put_group, taken, with_dynamic, group_of as levels_for}
 use Rattle.script_groups.specs.Acting.{HasTurn, IsActed, IsSoundGroup, MayCome, poisoned}
 use Rattle.script_groups.specs.Groups.{ScriptGroup, Placed, acted, all_acted, group_numbered, group_of, placed}
 use Rattle.script_groups.specs.Laws.{EventsLast, GroupsStaySound, SentMayCome}
@@ -19,11 +23,13 @@ use Rattle.script_world.specs.declared.messages.Message.{Message}
 use Rattle.script_world.specs.declared.messages.Message.TheVariants as messages
 use Rattle.script_world.specs.Sound.{AreInOrder, IsOnItsWay, IsSound, MayComeTo}
 use Rattle.script_world.specs.declared.limits.TheConstants.{GROUP_LIMIT}
-use Rattle.script_world.specs.World.{World, carried, ticked, with_group}
+use Rattle.script_world.specs.World.{World, carried, ticked, with_group, with_settings}
 use Rattle.script_world.specs.Worlds.{AreOrHave, EventAt, HasTurnAt, IsOrHas, power_event}
 use Rattle.script_world.specs.declared.hosts.HostState.{HostState}
 use Rattle.script_world.proofs.Loops.{same_count}
 use Rattle.script_world.proofs.Places.{numbered_at}
+use Rattle.script_world.proofs.SettingsLemmas.{none_dropped, once_dropped, once_put, other_put}
+use Rattle.shipped_servants.specs.Kinds.{type_id}
 
 -- ---- lists
 
@@ -175,6 +181,8 @@ sound_groups w hs sound all = record {
   groups = follow_sound w.groups hs all;
   ordered = λ i h at. (let b = behind w.groups hs i h all at in ap (λ id. id.0) b.follows.id ∙ sound.ordered i b.group b.there);
   on_their_way = all_mapped (IsOnItsWay w.groups) (IsOnItsWay hs) w.messages (message_follows w.groups hs all) sound.on_their_way;
+  fresh = λ n past. sound.fresh n (omega (arith, past, follow_count w.groups hs all));
+  once = sound.once;
 }
 
 -- ---- one event at one group
@@ -295,14 +303,71 @@ count_added : (gs : List ScriptGroup) (g : ScriptGroup) → length (gs ++ g ∷ 
 count_added [] g = refl
 count_added (x ∷ gs) g = omega (arith, count_added gs g)
 
-pub sound_added : (w : World) (g : ScriptGroup) → IsSound w → length w.groups < GROUP_LIMIT → IsSoundGroup g → g.id.0 ≡ length w.groups + 1 → IsSound (with_group w g)
-sound_added w g sound room its_own numbered = record {
+pub sound_added : (w : World) (g : ScriptGroup) (criteria : List Property) → IsSound w → length w.groups < GROUP_LIMIT → IsSoundGroup g → g.id.0 ≡ length w.groups + 1 →
+    IsSound (with_group w g criteria)
+sound_added w g criteria sound room its_own numbered = record {
   few_hosts = sound.few_hosts;
   few_groups = omega (arith, room, count_added w.groups g);
   behind = sound.behind;
   groups = all_push IsSoundGroup w.groups g sound.groups its_own;
   ordered = λ i x at. (omega (arith, last_in_order w.groups g 0 (λ k z there. (omega (arith, sound.ordered k z there))) (omega (arith, numbered)) i x at));
   on_their_way = all_mapped (IsOnItsWay w.groups) (IsOnItsWay (w.groups ++ g ∷ [])) w.messages (message_stays w.groups g) sound.on_their_way;
+  fresh = λ n past. (
+      other_put w.settings.groups g.id.0 n (taken w.settings (type_id g.kind) criteria) (λ same. omega (arith, past, count_added w.groups g, numbered))
+      ∙ sound.fresh n (omega (arith, past, count_added w.groups g))
+      );
+  once = once_put w.settings.groups g.id.0 (taken w.settings (type_id g.kind) criteria) sound.once;
+}
+
+-- ---- what is set
+
+-- no number of a group is past their count
+number_within : (gs : List ScriptGroup) (i : ℕ) (g : ScriptGroup) → AreInOrder gs → slice_get gs i ≡ Some g → g.id.0 ≤ length gs
+number_within gs i g ordered at = omega (arith, ordered i g at, inside gs i g at)
+  where
+    inside : (xs : List ScriptGroup) (k : ℕ) (x : ScriptGroup) → slice_get xs k ≡ Some x → k < length xs
+    inside [] k x there = absurd cc
+    inside (y ∷ xs) zero x there = omega arith
+    inside (y ∷ xs) (suc k) x there = omega (arith, inside xs k x there)
+
+sound_put : (w : World) (place : ℕ) (g : ScriptGroup) (levels : Levels) → slice_get w.groups place ≡ Some g → IsSound w →
+    IsSound (with_settings w (record w.settings { groups = put_group w.settings.groups g.id.0 levels }))
+sound_put w place g levels at sound = record {
+  few_hosts = sound.few_hosts;
+  few_groups = sound.few_groups;
+  behind = sound.behind;
+  groups = sound.groups;
+  ordered = sound.ordered;
+  on_their_way = sound.on_their_way;
+  fresh = λ n past. (
+      other_put w.settings.groups g.id.0 n levels (λ same. omega (arith, past, number_within w.groups place g sound.ordered at)) ∙ sound.fresh n past
+      );
+  once = once_put w.settings.groups g.id.0 levels sound.once;
+}
+
+-- whatever came of setting properties of a group that runs
+pub sound_set_for : (w : World) (place : ℕ) (g : ScriptGroup) (ps : List Property) (result : Result (Unit {0}) PropertyFault) (s : Settings) → slice_get w.groups place ≡ Some g →
+    IsSetFor g.id ps (levels_for w.settings.groups g.id.0) w.settings result s → IsSound w → IsSound (with_settings w s)
+sound_set_for w place g ps result s at it sound = go (levels_for w.settings.groups g.id.0) result it
+  where
+    same : s ≡ w.settings → IsSound (with_settings w s)
+    same is = subst (λ t. IsSound (with_settings w t)) (sym is) sound
+
+    go : (levels : Option Levels) (r : Result (Unit {0}) PropertyFault) → IsSetFor g.id ps levels w.settings r s → IsSound (with_settings w s)
+    go None r set = same set.1
+    go (Some levels) (Ok done) set = subst (λ t. IsSound (with_settings w t)) (sym set.1) (sound_put w place g (with_dynamic levels ps) at sound)
+    go (Some levels) (Err fault) set = same set.1
+
+pub sound_dropped : (w : World) (number : ℕ) → IsSound w → IsSound (with_settings w (record w.settings { groups = dropped w.settings.groups number }))
+sound_dropped w number sound = record {
+  few_hosts = sound.few_hosts;
+  few_groups = sound.few_groups;
+  behind = sound.behind;
+  groups = sound.groups;
+  ordered = sound.ordered;
+  on_their_way = sound.on_their_way;
+  fresh = λ n past. none_dropped w.settings.groups sound.once number n (sound.fresh n past);
+  once = once_dropped w.settings.groups number sound.once;
 }
 
 -- ---- time, and hosts that stop and start
@@ -330,6 +395,8 @@ sound_passed w ticks clock hosts is are sound = record {
   groups = sound.groups;
   ordered = sound.ordered;
   on_their_way = sound.on_their_way;
+  fresh = sound.fresh;
+  once = sound.once;
 }
 
 power_may : (up : Bool) (host : HostNo) → host.0 < HOST_LIMIT → (g : ScriptGroup) → MayCome g (power_event up host)
@@ -355,4 +422,6 @@ sound_powered w up host hosts groups place stay last inside hosts_are groups_are
       groups = after.groups;
       ordered = after.ordered;
       on_their_way = after.on_their_way;
+      fresh = after.fresh;
+      once = after.once;
     }

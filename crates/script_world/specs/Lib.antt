@@ -1,4 +1,5 @@
 pub mod World
+pub mod Settings
 pub mod Standing
 pub mod Sound
 pub mod Worlds

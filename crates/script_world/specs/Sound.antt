@@ -1,9 +1,11 @@
 -- What every world keeps.
-use Rattle.std.specs.Prelude.{◌≡◌, ℕ, ◌+◌, ◌*◌, ◌<◌, ◌≤◌, List, length, slice_get, Option, Some, None}
-use Rattle.std.specs.List.{AllByRecursion}
+use Rattle.std.specs.Prelude.{◌≡◌, ℕ, ◌+◌, ◌*◌, ◌<◌, ◌≤◌, nat_eq, List, length, slice_get, Option, Some, None}
+use Rattle.std.specs.List.{AllByRecursion, IsDistinct}
+use Rattle.std.specs.Map.{keys_of}
 use Rattle.ft_base.specs.declared.limits.TheConstants.{HOST_LIMIT}
 use Rattle.group_model.specs.declared.events.Out.{Out}
 use Rattle.group_model.specs.Sending.{brought}
+use Rattle.property_manager.specs.Groups.{group_of}
 use Rattle.script_clients.specs.Clients.{Client}
 use Rattle.script_groups.specs.Acting.{AreKept, IsSoundGroup, MayCome}
 use Rattle.script_groups.specs.Groups.{ScriptGroup, Placed, group_numbered}
@@ -35,6 +37,10 @@ pub record IsSound (w : World) : Type 0 where
   pub groups : AllByRecursion IsSoundGroup w.groups
   pub ordered : AreInOrder w.groups
   pub on_their_way : AllByRecursion (IsOnItsWay w.groups) w.messages
+  -- nothing is set for a group that wasn't made yet
+  pub fresh : (n : ℕ) → length w.groups < n → group_of w.settings.groups n ≡ None
+  -- each group that is there takes what is set once
+  pub once : IsDistinct nat_eq (keys_of w.settings.groups)
 
 -- memory was not wanted in any of its groups
 abbrev pub IsKeptWorld : World → Type 0

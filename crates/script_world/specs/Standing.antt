@@ -9,4 +9,5 @@ world_of a = record {
   groups = a.groups.items;
   clients = a.clients.items;
   messages = a.messages.items;
+  settings = a.settings;
 }

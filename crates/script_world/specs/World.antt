@@ -1,27 +1,33 @@
--- The world of a script: its clock, hosts, groups, clients and messages, and the small changes of it.
-use Rattle.std.specs.Prelude.{ℕ, ◌+◌, ◌-◌, ◌++◌, ◌==◌, Bool, true, false, nat_lt, if◌then◌else◌, List, [], ◌∷◌, length, map, replicate, slice_get, slice_set, Option, Some, None}
+-- The world of a script: its clock, hosts, groups, clients, messages and properties, and the small changes of it.
+use Rattle.std.specs.Prelude.{ℕ, ◌+◌, ◌-◌, ◌++◌, ◌==◌, Bool, true, false, nat_lt, if◌then◌else◌, List, [], ◌∷◌, length, map, replicate, slice_get, slice_set, Option, Some, None, is_none}
 use Rattle.std.specs.List.{list_any}
 use Rattle.std.specs.Str.{bytes_eq}
 use Rattle.ft_base.specs.declared.numbers.GroupId.{GroupId}
 use Rattle.group_model.specs.declared.events.Event.{Event}
 use Rattle.group_model.specs.declared.events.Out.{Out}
+use Rattle.property_manager.specs.declared.settings.Property.{Property}
+use Rattle.property_manager.specs.Groups.{Settings, dropped, group_of, nothing_set, put_group, taken}
 use Rattle.script_clients.specs.Clients.{Client}
 use Rattle.script_groups.specs.Groups.{ScriptGroup, Placed, acted, all_acted, found}
 use Rattle.script_world.specs.declared.hosts.HostState.{HostState}
 use Rattle.script_world.specs.declared.messages.Message.{Message}
 use Rattle.script_world.specs.declared.messages.Message.TheVariants as messages
+use Rattle.shipped_servants.specs.Kinds.{type_id}
 
 pub record World : Type 0 where
   pub clock : ℕ
   -- by number
   pub hosts : List HostState
+  -- all that were ever made
   pub groups : List ScriptGroup
   pub clients : List Client
   -- all messages that were ever sent; message K is the K-th
   pub messages : List Message
+  -- what is set for all groups, by type, and for each group that is there
+  pub settings : Settings
 
 abbrev pub empty : World
-empty = record { clock = 0; hosts = []; groups = []; clients = []; messages = [] }
+empty = record { clock = 0; hosts = []; groups = []; clients = []; messages = []; settings = nothing_set }
 
 -- ---- what is there
 
@@ -52,6 +58,10 @@ is_named w name =
     if list_any (λ (g : ScriptGroup). bytes_eq g.name name) w.groups then true
     else list_any (λ (c : Client). bytes_eq c.name name) w.clients
 
+-- a group is there until it is deleted: as long as the manager of properties has it
+abbrev pub is_deleted : World → ScriptGroup → Bool
+is_deleted w g = is_none (group_of w.settings.groups g.id.0)
+
 abbrev pub message_numbered : World → ℕ → Option Message
 message_numbered w k = if k == 0 then None else slice_get w.messages (k - 1)
 
@@ -81,8 +91,23 @@ fresh_host = record { up = true; clock = 0 }
 abbrev pub with_hosts : World → ℕ → World
 with_hosts w count = record w { hosts = replicate count fresh_host }
 
-abbrev pub with_group : World → ScriptGroup → World
-with_group w g = record w { groups = w.groups ++ g ∷ [] }
+-- what is set is this now
+abbrev pub with_settings : World → Settings → World
+with_settings w s = record w { settings = s }
+
+-- a group takes what is set for all and for its kind, and its criteria
+abbrev pub adopted : Settings → ScriptGroup → List Property → Settings
+adopted s g criteria = record s { groups = put_group s.groups g.id.0 (taken s (type_id g.kind) criteria) }
+
+abbrev pub with_group : World → ScriptGroup → List Property → World
+with_group w g criteria = record w { groups = w.groups ++ g ∷ []; settings = adopted w.settings g criteria }
+
+abbrev pub forgotten : Settings → ScriptGroup → Settings
+forgotten s g = record s { groups = dropped s.groups g.id.0 }
+
+-- a group that is deleted stays among all that were made
+abbrev pub without_group : World → ScriptGroup → World
+without_group w g = with_settings w (forgotten w.settings g)
 
 abbrev pub with_one_client : World → Client → World
 with_one_client w c = record w { clients = w.clients ++ c ∷ [] }

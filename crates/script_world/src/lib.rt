@@ -5,6 +5,7 @@
 mod hosts;
 mod limits;
 mod messages;
+mod settings;
 #[cfg(test)]
 mod tests;
 mod worlds;

@@ -1,6 +1,7 @@
-ghost use Rattle.std.specs.Prelude.{◌≡◌, ◌<◌, [], ◌∷◌};
+ghost use Rattle.std.specs.Prelude.{◌≡◌, ◌+◌, ◌<◌, ◌≤◌, [], ◌∷◌, ◌++◌, length, IfOk, OnOk};
+ghost use Rattle.script_groups.specs.Acting.{IsSoundGroup};
 
-use crate::{Begun, Message, Reply, World};
+use crate::{Begun, GROUP_LIMIT, Message, Reply, World};
 use client_retry::Heard;
 use ft_base::{
     Bytes, GroupId, HostNo, Key, Members, Name, NoMemory, Outcome, Par, Request, Retention, Steps,
@@ -8,6 +9,7 @@ use ft_base::{
 };
 use group_model::{Event, GroupAnswer, Inner, Out};
 use iogr_reference::{Components, GroupRef, Iiop, IiopList};
+use property_manager::{Property, PropertyFault, PropertyName, PropertyValue};
 use script_clients::{Attempt, ScriptClient, Told};
 use script_groups::ScriptGroup;
 use shipped_servants::Kind;
@@ -113,6 +115,18 @@ fn two() -> Members
     members
 }
 
+/// One more group, without criteria.
+#[tactic(auto, using(crate::proofs::SettingsLemmas::nothing_refused))]
+fn add(alloc: Global, world: &mut World, group: ScriptGroup) -> Result<(), NoMemory>
+    requires room { length world.old.groups < GROUP_LIMIT }
+    requires sound { IsSoundGroup group }
+    requires numbered { group.id.0 ≡ length world.old.groups + 1 }
+    ensures { OnOk result (world.new.groups ≡ world.old.groups ++ group ∷ []) }
+{
+    let nothing: Vec<Property> = Vec::new(alloc);
+    world.add_group(group, nothing.as_slice())
+}
+
 // An account and a client, a request and its reply; host 1 stops and starts again, and the group's host 0 stops.
 fn stop_and_start<L: Ledger>(rt: &impl Abort, alloc: Global, blank: Blank) -> Result<(), NoMemory>
     requires name { blank.name ≡ L.name }
@@ -132,7 +146,7 @@ fn stop_and_start<L: Ledger>(rt: &impl Abort, alloc: Global, blank: Blank) -> Re
         two(),
     )?;
     group.is_sound();
-    world.add_group(group)?;
+    add(alloc, &mut world, group)?;
     world.add_client(ScriptClient::new(name(alloc, b"ann")?, alloc))?;
     world.send(Message::Request {
         client: 0,
@@ -210,5 +224,117 @@ fn a_call_is_answered(rt: HostRuntime) -> Result<(), NoMemory> {
     let value = Bytes::of(alloc, b"\x05")?;
     let ended = world.hear_at(0, 1, Heard::Outcome(Outcome::Value(value)))?;
     assert!(rt; told(&ended) == ("ended", 1, 0));
+    Ok(())
+}
+
+const INTERVAL: &[u8] = b"org.omg.ft.CheckpointInterval";
+
+const STYLE: &[u8] = b"org.omg.ft.ReplicationStyle";
+
+/// A list of one property.
+fn one(alloc: Global, name: &[u8], value: &[u8]) -> Result<Vec<Property>, NoMemory>
+    ensures { IfOk result (λ list. length list.items ≤ 1) }
+{
+    if name.len() > 255 {
+        return Err(NoMemory);
+    }
+    let Ok(name) = Name::of(alloc, name) else {
+        return Err(NoMemory);
+    };
+    let value = PropertyValue(Bytes::of(alloc, value)?);
+    let mut list = Vec::new(alloc);
+    list.push(Property { name, value })?;
+    Ok(list)
+}
+
+/// Why a property can't be set for all groups.
+fn set_default(
+    alloc: Global,
+    world: &mut World,
+    name: &[u8],
+    value: &[u8],
+) -> Result<Option<PropertyFault>, NoMemory> {
+    let list = one(alloc, name, value)?;
+    Ok(world.set_defaults(list.as_slice()).err())
+}
+
+/// Why a property can't be set for all accounts.
+fn set_account(
+    alloc: Global,
+    world: &mut World,
+    name: &[u8],
+    value: &[u8],
+) -> Result<Option<PropertyFault>, NoMemory> {
+    let list = one(alloc, name, value)?;
+    Ok(world.set_type(Kind::Account, list.as_slice()).err())
+}
+
+/// Why a property can't be set in the first group while it runs.
+fn set_first(
+    alloc: Global,
+    world: &mut World,
+    name: &[u8],
+    value: &[u8],
+) -> Result<Option<PropertyFault>, NoMemory> {
+    let list = one(alloc, name, value)?;
+    if world.group_count() == 0 {
+        return Ok(None);
+    }
+    Ok(world.set_in_group(0, list.as_slice()).err())
+}
+
+/// An account is the first group, if there is none yet.
+fn add_account(alloc: Global, world: &mut World) -> Result<(), NoMemory> {
+    if world.group_count() > 0 {
+        return Ok(());
+    }
+    let account = name(alloc, b"acc")?;
+    let group = ScriptGroup::new(
+        alloc,
+        GroupId(1),
+        account,
+        Kind::Account,
+        Style::Cold,
+        two(),
+    )?;
+    group.is_sound();
+    add(alloc, world, group)
+}
+
+/// Whether the first group has this value of a property.
+fn has(world: &World, name: PropertyName, value: &[u8]) -> bool {
+    world.properties().value(GroupId(1), name) == Some(value)
+}
+
+fn delete_first(world: &mut World) {
+    if world.group_count() > 0 {
+        world.delete_group(0);
+    }
+}
+
+fn first_is_deleted(world: &World) -> bool {
+    world.group_count() > 0 && world.is_deleted(0)
+}
+
+// A group takes the default and the settings of its kind, and keeps its name when it is deleted.
+#[test]
+fn groups_take_what_is_set(rt: HostRuntime) -> Result<(), NoMemory> {
+    let alloc = rt.alloc();
+    let mut world = World::new(alloc)?;
+    assert!(rt; set_default(alloc, &mut world, INTERVAL, b"50")?.is_none());
+    assert!(rt; set_account(alloc, &mut world, STYLE, b"ACTIVE")?.is_none());
+    add_account(alloc, &mut world)?;
+    assert!(rt; has(&world, PropertyName::CheckpointInterval, b"50"));
+    assert!(rt; has(&world, PropertyName::ReplicationStyle, b"ACTIVE"));
+    let fixed = PropertyFault::UnsupportedProperty { place: 0 };
+    assert!(rt; set_first(alloc, &mut world, STYLE, b"ACTIVE")? == Some(fixed));
+    assert!(rt; set_first(alloc, &mut world, INTERVAL, b"60")?.is_none());
+    assert!(rt; has(&world, PropertyName::CheckpointInterval, b"60"));
+    assert!(rt; !first_is_deleted(&world));
+    delete_first(&mut world);
+    assert!(rt; first_is_deleted(&world));
+    assert!(rt; world.is_named(&name(alloc, b"acc")?));
+    let gone = PropertyFault::ObjectGroupNotFound(GroupId(1));
+    assert!(rt; set_first(alloc, &mut world, INTERVAL, b"60")? == Some(gone));
     Ok(())
 }

@@ -4,12 +4,12 @@ ghost use Rattle.std.specs.Str.{bytes_eq};
 ghost use Rattle.ft_base.specs.declared.limits.TheConstants.{HOST_LIMIT};
 ghost use Rattle.group_model.specs.Sending.{sent_by};
 ghost use Rattle.group_references.specs.Ports.{all_ports};
-ghost use Rattle.script_clients.specs.Clients.{Client, hearing, taking};
+ghost use Rattle.script_clients.specs.Clients.{Client, binding, failing, hearing, taking};
 ghost use Rattle.script_groups.specs.Acting.{AreKept, IsKept, IsSoundGroup, MayCome, poisoned};
 ghost use Rattle.script_groups.specs.Groups.{ScriptGroup as Group, acted, all_acted, entries_of, found, group_named, group_numbered};
 ghost use Rattle.script_world.specs.declared.hosts.HostState.{HostState as State};
 ghost use Rattle.script_world.specs.Sound.{IsKeptWorld, IsOnItsWay};
-ghost use Rattle.script_world.specs.World.{World, carried, client_named, empty, fresh_host, host_clock, is_named, is_there, is_up, message_numbered, passed, ticked, with_client, with_event, with_group, with_host, with_hosts, with_messages, with_one_client};
+ghost use Rattle.script_world.specs.World.{World, carried, client_named, empty, fresh_host, host_clock, is_named, is_there, is_up, message_numbered, passed, ticked, with_client, with_event, with_host, with_hosts, with_messages, with_one_client};
 ghost use Rattle.script_world.specs.Worlds.{AreOrHave, CanStart, EventAt, IsMade, IsPlace, begin, power_event};
 
 use crate::hosts::HostState;
@@ -20,6 +20,7 @@ use ft_base::{GroupId, HOST_LIMIT, HostNo, Name, NoMemory, Request, Steps, Tick}
 use group_model::{Event, GroupAnswer};
 use group_references::all_ports;
 use iogr_reference::{GroupRef, Ports};
+use property_manager::PropertyManager;
 use script_clients::{ScriptClient, Told};
 use script_groups::{ScriptGroup, groups_go_on};
 use std::alloc::Global;
@@ -37,16 +38,31 @@ pub struct Begun {
     pub request: Request,
 }
 
-/// All that a script made: the hosts with their clocks, the groups, the clients, and every message
-/// that was ever sent.
-#[derive(Drop)]
+/// All that a script made: the hosts with their clocks, the groups, also those that were deleted, the
+/// clients, every message that was ever sent, and the properties that are set.
 pub struct World {
     clock: u64,
     hosts: Vec<HostState>,
-    groups: Vec<ScriptGroup>,
+    pub(crate) groups: Vec<ScriptGroup>,
     clients: Vec<ScriptClient>,
     messages: Vec<Message>,
+    pub(crate) settings: PropertyManager,
     ports: Ports,
+}
+
+// Written out, so that whoever drops a world makes one call, and not one for each part of each field.
+impl Drop for World {
+    fn drop(self) {
+        let World {
+            clock: _,
+            hosts: _,
+            groups: _,
+            clients: _,
+            messages: _,
+            settings: _,
+            ports: _,
+        } = self;
+    }
 }
 
 impl Model for World {
@@ -214,6 +230,7 @@ impl World {
             groups: Vec::new(alloc),
             clients: Vec::new(alloc),
             messages: Vec::new(alloc),
+            settings: PropertyManager::new(alloc),
             ports,
         })
     }
@@ -379,16 +396,6 @@ impl World {
         Ok(())
     }
 
-    pub fn add_group(&mut self, group: ScriptGroup) -> Result<(), NoMemory>
-        requires room { length self.old.groups < GROUP_LIMIT }
-        requires sound { IsSoundGroup group }
-        requires numbered { group.id.0 ≡ length self.old.groups + 1 }
-        ensures { OnOk result (self.new ≡ with_group self.old group) }
-    {
-        self.groups.push(group)?;
-        Ok(())
-    }
-
     pub fn add_client(&mut self, client: ScriptClient) -> Result<(), NoMemory>
         ensures { OnOk result (self.new ≡ with_one_client self.old client) }
     {
@@ -511,6 +518,29 @@ impl World {
         let now = Tick(self.clock);
         let client = &mut self.clients[place];
         client.hear(alloc, id, heard, now)
+    }
+
+    /// The client at this place goes by this reference for its group from now on, between two invocations.
+    pub fn bind_at(&mut self, place: usize, reference: GroupRef) -> Result<(), NoMemory>
+        requires within { place < length self.old.clients }
+        requires idle { (c : Client) → slice_get self.old.clients place ≡ Some c → c.call ≡ None }
+        ensures { (c : Client) → slice_get self.old.clients place ≡ Some c → OnOk result (self.new ≡ with_client self.old place (binding c reference)) }
+    {
+        let client = &mut self.clients[place];
+        client.bind(reference)
+    }
+
+    /// Now it is known that the last attempt of the client at this place gets no reply.
+    pub fn fail_at(&mut self, place: usize) -> Result<Told, NoMemory>
+        requires within { place < length self.old.clients }
+        ensures { (c : Client) → slice_get self.old.clients place ≡ Some c →
+            IfOk result (λ told. (told ≡ (failing c (record { 0 = self.old.clock })).told)
+            × (self.new ≡ with_client self.old place (failing c (record { 0 = self.old.clock })).client)) }
+    {
+        let alloc = *self.messages.allocator();
+        let moment = Tick(self.clock);
+        let client = &mut self.clients[place];
+        client.fault(alloc, moment)
     }
 
     /// How many requests all groups have accepted.

@@ -7,4 +7,4 @@ pub returns-then-is_script_name : goal.returns-then-is_script_name
 returns-then-is_script_name c =
     let named : is_script_name c.args.word.now ≡ true = cc in
     let operation = script_name_operation c.args.word.now named in
-    rw named (rw operation at c.read_operation.ensures)
+    rw named (rw operation at c.read_any_name.ensures)

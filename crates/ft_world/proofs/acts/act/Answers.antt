@@ -1,4 +1,4 @@
-use Rattle.ft_world.specs.Answers.{calls_of}
+use Rattle.world_turns.specs.Answers.{calls_of}
 use Rattle.ft_world.specs.Acts.{act_first}
 use Rattle.ft_world.proofs.KeptLemmas.{acted_after, kept_after}
 use Rattle.ft_world.proofs.acts.act.Goals as goal

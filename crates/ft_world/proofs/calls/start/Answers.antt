@@ -1,10 +1,11 @@
 use Rattle.std.proofs.Common.{◌≡◌, None, sym, subst, ap, ◌∙◌}
 use Rattle.script_clients.specs.Clients.{Client, taking}
 use Rattle.script_world.specs.Worlds.{CanStart}
-use Rattle.ft_world.specs.Answers.{Does}
+use Rattle.world_turns.specs.Answers.{Does}
 use Rattle.ft_world.specs.Clients.{key_of}
-use Rattle.ft_world.specs.Turns.{Effect}
-use Rattle.ft_world.proofs.CallLemmas.{begun_is, client_there, client_within, made, same_some, some_at, started_is}
+use Rattle.world_turns.specs.Turns.{Effect}
+use Rattle.ft_world.proofs.CallLemmas.{begun_is, client_there, client_within, made, some_at, started_is}
+use Rattle.ft_world.proofs.PlaceLemmas.{same_some}
 use Rattle.ft_world.proofs.calls.start.Goals as goal
 
 pub start_at-requires-clause-within : goal.start_at-requires-clause-within

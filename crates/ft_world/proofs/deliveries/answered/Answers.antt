@@ -1,6 +1,6 @@
 use Rattle.std.proofs.Common.{ap, sym, subst, ◌∙◌}
 use Rattle.group_model.specs.declared.events.GroupAnswer.TheVariants as answers
-use Rattle.ft_world.specs.Answers.{Does}
+use Rattle.world_turns.specs.Answers.{Does}
 use Rattle.ft_world.specs.Delivering.{answered}
 use Rattle.ft_world.proofs.deliveries.answered.Goals as goal
 

@@ -7,7 +7,8 @@ use Rattle.script_groups.specs.Groups.{ScriptGroup, acted}
 use Rattle.script_world.specs.Sound.{IsOnItsWay}
 use Rattle.script_world.specs.World.{carried}
 use Rattle.ft_world.proofs.ArriveLemmas.{get_inside, has_turn, is_made}
-use Rattle.ft_world.proofs.CallLemmas.{same_some, some_at}
+use Rattle.ft_world.proofs.CallLemmas.{some_at}
+use Rattle.ft_world.proofs.PlaceLemmas.{same_some}
 use Rattle.ft_world.proofs.LinkLemmas.{asks_at, event_of, had_turn, replies_in_form, short_at, stands_later}
 use Rattle.ft_world.proofs.links.ask_at.Goals as goal
 

@@ -1,6 +1,6 @@
 use Rattle.std.proofs.Common.{subst, sym}
 use Rattle.ft_world.specs.Acts.{act}
-use Rattle.ft_world.specs.Answers.{DidNot}
+use Rattle.world_turns.specs.Answers.{DidNot}
 use Rattle.script_world.specs.Sound.{HasActed}
 use Rattle.script_world.specs.World.{World}
 use Rattle.run_top.proofs.PlayingLemmas.{not_acted}

@@ -1,4 +1,4 @@
-use Rattle.std.proofs.Common.{◌+◌, ap, sym, ◌∙◌}
+use Rattle.std.proofs.Common.{◌+◌, ap}
 use Rattle.script_world.specs.Standing.{world_of}
 use Rattle.script_world.proofs.SoundLemmas.{sound_passed}
 use Rattle.script_world.proofs.worlds.World.pass.Goals as goal

@@ -1,4 +1,3 @@
-use Rattle.std.proofs.Common.{sym, subst, ◌∙◌}
 use Rattle.script_world.specs.Standing.{world_of}
 use Rattle.script_world.proofs.SoundLemmas.{sound_powered, sound_partly}
 use Rattle.script_world.proofs.worlds.World.set_power.Goals as goal

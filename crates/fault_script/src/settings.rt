@@ -1,0 +1,171 @@
+ghost use Rattle.std.specs.Prelude.{◌≡◌, None, Some, MatchOption};
+ghost use Rattle.fault_script.specs.Words.{texts};
+ghost use Rattle.fault_script.specs.Faults.{IsAnswer};
+ghost use Rattle.fault_script.specs.Arguments.{IsFound};
+ghost use Rattle.fault_script.specs.Properties.{property_of, property_said, is_later};
+ghost use Rattle.fault_script.specs.Forms.{level_of, set_group, set_line, unset_line, get_group, get_line};
+
+use crate::forms::find_kind;
+use crate::lines::{Level, Line, LineFault};
+use crate::names::{read_any_name, read_name};
+use crate::splitting::{only, split_first};
+use ft_base::{Bytes, NoMemory};
+use property_manager::{Property, PropertyName, PropertyValue};
+use std::alloc::Global;
+
+/// Whether a property asks for groups of a style that isn't built yet.
+pub(crate) fn is_later(property: &Property) -> bool
+    ensures { result ≡ is_later property.now }
+{
+    let value = property.value.0.bytes();
+    property.name.bytes() == PropertyName::ReplicationStyle.text()
+        && (value == b"WARM_PASSIVE".as_slice() || value == b"ACTIVE".as_slice())
+}
+
+/// The property with this name and this value.
+pub(crate) fn read_property(alloc: Global, name: &[u8], value: &[u8]) -> Result<Property, LineFault>
+    ensures { IsFound (λ property. property) result (property_of name.now value.now) }
+{
+    match read_any_name(alloc, name) {
+        Ok(name) => match Bytes::of(alloc, value) {
+            Ok(value) => Ok(Property {
+                name,
+                value: PropertyValue(value),
+            }),
+            Err(NoMemory) => Err(LineFault::NoMemory),
+        },
+        Err(fault) => Err(fault),
+    }
+}
+
+/// The property that words say, its name and its value.
+fn read_said(alloc: Global, words: &[&[u8]]) -> Result<Property, LineFault>
+    ensures { IsFound (λ property. property) result (property_said (texts words.now)) }
+{
+    let Some((name, rest)) = split_first(words) else {
+        return Err(LineFault::Syntax);
+    };
+    match only(rest) {
+        Some(value) => read_property(alloc, name, value),
+        None => Err(LineFault::Syntax),
+    }
+}
+
+/// The level that the first words name, and the words behind them.
+fn split_level<'a, 'b>(words: &'b [&'a [u8]]) -> Option<(Level, &'b [&'a [u8]])>
+    ensures { MatchOption result (level_of (texts words.now) ≡ None)
+        (λ parts. level_of (texts words.now) ≡ Some (record { level = parts.0; rest = texts parts.1.now })) }
+{
+    let (word, rest) = split_first(words)?;
+    if word == b"default".as_slice() {
+        return Some((Level::Default, rest));
+    }
+    if word != b"type".as_slice() {
+        return None;
+    }
+    let (kind, rest) = split_first(rest)?;
+    let kind = find_kind(kind)?;
+    Some((Level::Type(kind), rest))
+}
+
+/// `set group G P V`, from the words behind `group`.
+fn read_set_group(alloc: Global, words: &[&[u8]]) -> Result<Line, LineFault>
+    ensures { IsAnswer result (set_group (texts words.now)) }
+{
+    let Some((group, rest)) = split_first(words) else {
+        return Err(LineFault::Syntax);
+    };
+    let group = match read_name(alloc, group) {
+        Ok(group) => group,
+        Err(fault) => return Err(fault),
+    };
+    let property = match read_said(alloc, rest) {
+        Ok(property) => property,
+        Err(fault) => return Err(fault),
+    };
+    if is_later(&property) {
+        return Err(LineFault::Later);
+    }
+    Ok(Line::SetGroup { group, property })
+}
+
+/// `set default P V` and its like, from the words behind the first.
+pub(crate) fn read_set(alloc: Global, words: &[&[u8]]) -> Result<Line, LineFault>
+    ensures { IsAnswer result (set_line (texts words.now)) }
+{
+    let Some((place, rest)) = split_first(words) else {
+        return Err(LineFault::Syntax);
+    };
+    if place == b"group".as_slice() {
+        return read_set_group(alloc, rest);
+    }
+    let Some((level, rest)) = split_level(words) else {
+        return Err(LineFault::Syntax);
+    };
+    let property = match read_said(alloc, rest) {
+        Ok(property) => property,
+        Err(fault) => return Err(fault),
+    };
+    if is_later(&property) {
+        return Err(LineFault::Later);
+    }
+    Ok(Line::Set { level, property })
+}
+
+/// `unset default P` and its like, from the words behind the first.
+pub(crate) fn read_unset(alloc: Global, words: &[&[u8]]) -> Result<Line, LineFault>
+    ensures { IsAnswer result (unset_line (texts words.now)) }
+{
+    let Some((level, rest)) = split_level(words) else {
+        return Err(LineFault::Syntax);
+    };
+    let Some(name) = only(rest) else {
+        return Err(LineFault::Syntax);
+    };
+    match read_any_name(alloc, name) {
+        Ok(name) => Ok(Line::Unset { level, name }),
+        Err(fault) => Err(fault),
+    }
+}
+
+/// `get group G P`, from the words behind `group`.
+fn read_get_group(alloc: Global, words: &[&[u8]]) -> Result<Line, LineFault>
+    ensures { IsAnswer result (get_group (texts words.now)) }
+{
+    let Some((group, rest)) = split_first(words) else {
+        return Err(LineFault::Syntax);
+    };
+    let Some(name) = only(rest) else {
+        return Err(LineFault::Syntax);
+    };
+    let group = match read_name(alloc, group) {
+        Ok(group) => group,
+        Err(fault) => return Err(fault),
+    };
+    match read_any_name(alloc, name) {
+        Ok(name) => Ok(Line::GetGroup { group, name }),
+        Err(fault) => Err(fault),
+    }
+}
+
+/// `get default P` and its like, from the words behind the first.
+pub(crate) fn read_get(alloc: Global, words: &[&[u8]]) -> Result<Line, LineFault>
+    ensures { IsAnswer result (get_line (texts words.now)) }
+{
+    let Some((place, rest)) = split_first(words) else {
+        return Err(LineFault::Syntax);
+    };
+    if place == b"group".as_slice() {
+        return read_get_group(alloc, rest);
+    }
+    let Some((level, rest)) = split_level(words) else {
+        return Err(LineFault::Syntax);
+    };
+    let Some(name) = only(rest) else {
+        return Err(LineFault::Syntax);
+    };
+    match read_any_name(alloc, name) {
+        Ok(name) => Ok(Line::Get { level, name }),
+        Err(fault) => Err(fault),
+    }
+}

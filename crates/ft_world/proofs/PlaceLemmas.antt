@@ -1,0 +1,98 @@
+-- Elements of lists by their places, and groups by what they are named.
+use Rattle.std.proofs.Common.{◌≡◌, ℕ, zero, suc, ◌+◌, arith, Bool, true, false, List, [], ◌∷◌, ◌++◌, Option, Some, None, refl, sym, ap, subst}
+use Rattle.std.specs.Prelude.{◌==◌, ◌-◌, if◌then◌else◌, option_map, slice_get, slice_set}
+use Rattle.std.specs.List.{AllByRecursion}
+use Rattle.script_groups.specs.Groups.{ScriptGroup, Placed, found, group_named, group_numbered, placed}
+use Rattle.script_world.specs.World.{World, is_deleted}
+use Rattle.world_turns.specs.Naming.{Naming, NeverMade, Deleted, There, group_called, group_with_number, naming_of, there_only}
+
+pub all_push : {A : Type 0} (P : A → Type 0) (xs : List A) (x : A) → AllByRecursion P xs → P x → AllByRecursion P (xs ++ x ∷ [])
+all_push P [] x all p = (p, tt)
+all_push P (y ∷ xs) x all p = (all.0, all_push P xs x all.1 p)
+
+pub all_set : {A : Type 0} (P : A → Type 0) (xs : List A) (i : ℕ) (x : A) → AllByRecursion P xs → P x → AllByRecursion P (slice_set xs i x)
+all_set P [] i x all p = tt
+all_set P (y ∷ xs) zero x all p = (p, all.1)
+all_set P (y ∷ xs) (suc i) x all p = (all.0, all_set P xs i x all.1 p)
+
+-- whatever holds of all elements holds of this one
+abbrev pub IsOf : {A : Type 0} → List A → Option A → Type 1
+IsOf {A} xs None = Unit {1}
+IsOf {A} xs (Some x) = (P : A → Type 0) → AllByRecursion P xs → P x
+
+-- it stands at its place
+abbrev pub IsOneOf : {A : Type 0} → List A → Option (Placed A) → Type 0
+IsOneOf xs None = Unit {0}
+IsOneOf {A} xs (Some p) = slice_get xs p.place ≡ Some p.value
+
+pub all_get : {A : Type 0} (P : A → Type 0) (xs : List A) (i : ℕ) (x : A) → AllByRecursion P xs → slice_get xs i ≡ Some x → P x
+all_get P [] i x all at = absurd cc
+all_get P (y ∷ xs) zero x all at = subst P (let e : y ≡ x = cc in e) all.0
+all_get P (y ∷ xs) (suc i) x all at = all_get P xs i x all.1 at
+
+pub got : {A : Type 0} (xs : List A) (i : ℕ) → IsOf xs (slice_get xs i)
+got [] i = tt
+got (x ∷ xs) zero = λ P all. all.0
+got {A = A} (x ∷ xs) (suc i) = further (slice_get xs i) (got xs i)
+  where
+    further : (o : Option A) → IsOf xs o → IsOf (x ∷ xs) o
+    further None is = tt
+    further (Some y) is = λ P all. is P all.1
+
+pub same_some : {A : Type 0} (x y : A) → Some x ≡ Some y → x ≡ y
+same_some x y e = cc
+
+pub found_at : {A : Type 0} (test : A → Bool) (i : ℕ) (xs : List A) (p : Placed A) → found test i xs ≡ Some p →
+    (k : ℕ) × (p.place ≡ i + k) × (slice_get xs k ≡ Some p.value)
+found_at test i [] p e = absurd cc
+found_at {A = A} test i (x ∷ xs) p e = go (found_at test (suc i) xs p) (test x) e
+  where
+    go : (found test (suc i) xs ≡ Some p → (k : ℕ) × (p.place ≡ suc i + k) × (slice_get xs k ≡ Some p.value)) → (b : Bool) → (if b then Some (placed i x) else found test (suc i) xs) ≡ Some p → (k : ℕ) × (p.place ≡ i + k) × (slice_get (x ∷ xs) k ≡ Some p.value)
+    go behind true f =
+        let is : placed i x ≡ p = same_some (placed i x) p f in
+        let place : p.place ≡ i = ap (λ (q : Placed A). q.place) (sym is) in
+        (0, omega (arith, place), ap (λ (q : Placed A). Some q.value) is)
+    go behind false f = let at = behind f in (suc at.0, omega (arith, at.1), at.2)
+
+pub found_one : {A : Type 0} (test : A → Bool) (xs : List A) → IsOneOf xs (found test 0 xs)
+found_one {A = A} test xs = go (found test 0 xs) refl
+  where
+    go : (o : Option (Placed A)) → found test 0 xs ≡ o → IsOneOf xs o
+    go None e = tt
+    go (Some p) e =
+        let at = found_at test 0 xs p e in
+        subst (λ (k : ℕ). slice_get xs k ≡ Some p.value) (let same : at.0 ≡ p.place = omega (arith, at.1) in same) at.2
+
+pub numbered_one : (gs : List ScriptGroup) (number : ℕ) → IsOneOf gs (group_numbered gs number)
+numbered_one gs number = choose (number - 1) (number == 0) (slice_get gs (number - 1)) refl
+  where
+    choose : (i : ℕ) (b : Bool) (o : Option ScriptGroup) → slice_get gs i ≡ o → IsOneOf gs (if b then None else option_map (placed i) o)
+    choose i true o at = tt
+    choose i false None at = tt
+    choose i false (Some g) at = at
+
+-- a group that is there, or was deleted, stands at its place
+abbrev pub IsOneNamed : List ScriptGroup → Naming → Type 0
+IsOneNamed gs NeverMade = Unit {0}
+IsOneNamed gs (Deleted p) = slice_get gs p.place ≡ Some p.value
+IsOneNamed gs (There p) = slice_get gs p.place ≡ Some p.value
+
+pub naming_one : (w : World) (o : Option (Placed ScriptGroup)) → IsOneOf w.groups o → IsOneNamed w.groups (naming_of w o)
+unfolding naming_of
+naming_one w None is = tt
+naming_one w (Some p) is = go (is_deleted w p.value)
+  where
+    go : (b : Bool) → IsOneNamed w.groups (if b then Deleted p else There p)
+    go true = is
+    go false = is
+
+pub called_one : (w : World) (name : List ℕ) → IsOneNamed w.groups (group_called w name)
+called_one w name = naming_one w (group_named w.groups name) (found_one _ w.groups)
+
+pub with_number_one : (w : World) (number : ℕ) → IsOneNamed w.groups (group_with_number w number)
+with_number_one w number = naming_one w (group_numbered w.groups number) (numbered_one w.groups number)
+
+pub there_one : (gs : List ScriptGroup) (n : Naming) → IsOneNamed gs n → IsOneOf gs (there_only n)
+there_one gs NeverMade is = tt
+there_one gs (Deleted p) is = tt
+there_one gs (There p) is = is

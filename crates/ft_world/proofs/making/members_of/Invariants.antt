@@ -1,6 +1,0 @@
-use Rattle.std.proofs.Common.{◌≡◌, take}
-use Rattle.ft_world.proofs.making.members_of.Given as goal
-
--- the members so far
-abbrev pub invariant-loop-number : goal.invariant-loop-number
-invariant-loop-number l = l.members ≡ take l.number-index l.numbers

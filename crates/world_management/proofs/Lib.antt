@@ -1,0 +1,4 @@
+pub mod HostLemmas
+pub mod MakingLemmas
+pub mod CreatingLemmas
+pub mod SettingLemmas

@@ -1,0 +1,349 @@
+//! Groups that are made by criteria, members that hosts' factories make, and groups that are deleted. (Chapter 23,
+//! GenericFactory.)
+ghost use Rattle.std.specs.Prelude.{◌≡◌, ℕ, ◌<◌, ◌≤◌, ◌^◌, ◌++◌, [], ◌∷◌, false, None, IfOk, OnOk, Some, length, slice_get};
+ghost use Rattle.ft_base.specs.declared.limits.TheConstants.{HOST_LIMIT};
+ghost use Rattle.generic_factory.specs.Creating.{refusal};
+ghost use Rattle.group_model.specs.Changes.{host_of_change};
+ghost use Rattle.property_manager.specs.Hosts.{factories};
+ghost use Rattle.property_manager.specs.Levels.{has_name};
+ghost use Rattle.script_groups.specs.Groups.{ScriptGroup as Group, placed};
+ghost use Rattle.script_world.specs.Sound.{IsKeptWorld};
+ghost use Rattle.script_world.specs.declared.limits.TheConstants.{GROUP_LIMIT};
+ghost use Rattle.shipped_servants.specs.Kinds.{type_id};
+ghost use Rattle.world_management.specs.Creating.{can_make, create_causes, create_line, created, creation, creation_refused, delete_line, grow_line, grow_to, has_object, in_full, is_listed, is_listed_in, lacking, objects_at, style_in, values_of_kind};
+ghost use Rattle.world_management.specs.Making.{kind_of};
+ghost use Rattle.world_turns.specs.Answers.{Acts, Does};
+ghost use Rattle.world_turns.specs.Naming.{There};
+ghost use Rattle.world_turns.specs.Turns.{first_cause};
+
+use crate::hosts::{change_members, gone_at};
+use crate::making::{kind_of, make_group};
+use fault_script::{Criteria, KindWord, LimitName, LineFault};
+use ft_base::{HostNo, Members, Name, NoMemory, Steps, Style};
+use ft_report::{ReportLine, ReportLines, SettingFault};
+use generic_factory::{CreateFault, Factory, OBJECT_LIMIT};
+use group_model::Change;
+use property_manager::{
+    Properties, Property, PropertyName, ReplicationStyle, effective_in, factories,
+};
+use script_world::{GROUP_LIMIT, World};
+use shipped_servants::Kind;
+use std::alloc::Global;
+use std::sync::ledger::Ledger;
+use world_turns::{Named, gone, group_called, one_line};
+
+/// More properties than a line can say.
+const CRITERIA_ROOM: usize = 65_536;
+
+// The first cause for which no group of this name is made.
+fn refuses_creation(world: &World, name: &Name) -> Option<LineFault>
+    ensures { result ≡ first_cause (create_causes world.now name.now) }
+{
+    if world.is_named(name) {
+        return Some(LineFault::Again);
+    }
+    if world.group_count() >= GROUP_LIMIT {
+        return Some(LineFault::Limit(LimitName::Groups));
+    }
+    None
+}
+
+fn has_name(properties: &[Property], name: &Name) -> bool
+    ensures { result ≡ has_name name.now properties.now }
+{
+    properties.iter().any(|property| property.name.is(name))
+}
+
+// Copies of properties.
+fn push_all(
+    alloc: Global,
+    list: &mut Vec<Property>,
+    properties: &[Property],
+) -> Result<(), NoMemory>
+    ensures { OnOk result (list.new.items ≡ list.old.items ++ properties.now) }
+{
+    for property in properties {
+        let copy = property.copy(alloc)?;
+        list.push(copy)?;
+    }
+    Ok(())
+}
+
+// A copy of a property that a list lacks.
+#[tactic(auto, using(crate::proofs::CreatingLemmas::lacked, crate::proofs::CreatingLemmas::not_lacked))]
+fn push_lacked(
+    alloc: Global,
+    list: &mut Vec<Property>,
+    criteria: &[Property],
+    property: &Property,
+) -> Result<(), NoMemory>
+    ensures { OnOk result (list.new.items ≡ list.old.items ++ lacking criteria.now (property.now ∷ [])) }
+{
+    if !has_name(criteria, &property.name) {
+        let copy = property.copy(alloc)?;
+        list.push(copy)?;
+    }
+    Ok(())
+}
+
+// Copies of those that a list lacks.
+#[tactic(auto, unfolding(crate::specs::Creating::lacking))]
+fn push_lacking(
+    alloc: Global,
+    list: &mut Vec<Property>,
+    criteria: &[Property],
+    properties: &[Property],
+) -> Result<(), NoMemory>
+    ensures { OnOk result (list.new.items ≡ list.old.items ++ lacking criteria.now properties.now) }
+{
+    for property in properties {
+        push_lacked(alloc, list, criteria, property)?;
+    }
+    Ok(())
+}
+
+fn type_name(alloc: Global, kind: Kind) -> Result<Name, NoMemory>
+    ensures { IfOk result (λ name. name ≡ type_id kind) }
+{
+    match Name::of(alloc, kind.type_id()) {
+        Ok(name) => Ok(name),
+        Err(_) => Err(NoMemory),
+    }
+}
+
+/// All ten properties as they are for groups of a kind that are made now.
+pub(crate) fn values_of_kind(world: &World, kind: Kind) -> Result<Properties, NoMemory>
+    ensures { IfOk result (λ values. values ≡ values_of_kind world.now.settings kind) }
+{
+    let alloc = world.alloc();
+    let type_id = type_name(alloc, kind)?;
+    match world.properties().get_type_properties(alloc, &type_id) {
+        Ok(values) => Ok(values),
+        Err(_) => Err(NoMemory),
+    }
+}
+
+// The criteria, and each property that they lack as it is for the kind.
+fn in_full(world: &World, kind: Kind, criteria: &[Property]) -> Result<Vec<Property>, NoMemory>
+    ensures { IfOk result (λ full. full.items ≡ in_full world.now.settings kind criteria.now) }
+{
+    let alloc = world.alloc();
+    let values = values_of_kind(world, kind)?;
+    let mut full = Vec::new(alloc);
+    push_all(alloc, &mut full, criteria)?;
+    push_lacking(alloc, &mut full, criteria, values.all())?;
+    Ok(full)
+}
+
+// Why a factory that has made nothing makes no object by these criteria.
+fn refusal(alloc: Global, kind: Kind, full: &[Property]) -> Result<Option<CreateFault>, NoMemory>
+    requires { length full.now ≤ 2 ^ 32 }
+    ensures { IfOk result (λ why. why ≡ refusal full.now []) }
+{
+    let type_id = type_name(alloc, kind)?;
+    let mut factory = Factory::new(alloc);
+    match factory.create_object(alloc, &type_id, full) {
+        Ok(_made) => Ok(None),
+        Err(CreateFault::NoMemory) => Err(NoMemory),
+        Err(why) => Ok(Some(why)),
+    }
+}
+
+// How the members of a group that is made so are to share its work.
+#[tactic(auto, unfolding(crate::specs::Creating::style_in))]
+fn style_in(full: &[Property]) -> Style
+    ensures { result ≡ style_in full.now }
+{
+    let style = ReplicationStyle::of(effective_in(full, PropertyName::ReplicationStyle));
+    match style {
+        None => Style::Cold,
+        Some(style) => match style.supported() {
+            Some(style) => style,
+            None => Style::Cold,
+        },
+    }
+}
+
+fn creation_refused(alloc: Global, why: CreateFault) -> Result<ReportLines, NoMemory>
+    ensures { IfOk result (λ report. report ≡ creation_refused why) }
+{
+    let why = match why {
+        CreateFault::InvalidCriteria(place) => SettingFault::InvalidCriteria(place),
+        CreateFault::UnsupportedProperty(place) => SettingFault::UnsupportedProperty(place),
+        CreateFault::CannotMeetCriteria { initial, minimum } => {
+            SettingFault::CannotMeetCriteria { initial, minimum }
+        }
+        _ => return Ok(ReportLines::new(alloc)),
+    };
+    one_line(alloc, ReportLine::RefusedSetting(why))
+}
+
+// A group without members is made by these criteria, unless they are refused.
+fn create<L: Ledger>(
+    world: &mut World,
+    name: Name,
+    kind: Kind,
+    criteria: &[Property],
+    steps: &mut Steps<L>,
+) -> Result<ReportLines, NoMemory>
+    requires room { length world.old.groups < GROUP_LIMIT }
+    ensures { Does (created world.old name kind criteria.now) result world.new steps.old steps.new }
+{
+    let alloc = world.alloc();
+    let full = in_full(world, kind, criteria)?;
+    // no line is that long
+    if full.len() > CRITERIA_ROOM {
+        return Err(NoMemory);
+    }
+    match refusal(alloc, kind, full.as_slice())? {
+        Some(why) => creation_refused(alloc, why),
+        None => {
+            let style = style_in(full.as_slice());
+            make_group(world, name, kind, style, Members::new(), criteria, steps)
+        }
+    }
+}
+
+/// `create G KIND P=V..`
+pub fn create_line<L: Ledger>(
+    world: &mut World,
+    name: Name,
+    kind: KindWord,
+    criteria: &Criteria,
+    steps: &mut Steps<L>,
+) -> Result<ReportLines, LineFault>
+    ensures { Acts (create_line world.old name kind criteria.now) result world.old world.new steps.old steps.new }
+{
+    if let Some(why) = refuses_creation(world, &name) {
+        return Err(why);
+    }
+    match create(world, name, kind_of(kind), criteria.as_slice(), steps) {
+        Ok(report) => Ok(report),
+        Err(NoMemory) => Err(LineFault::NoMemory),
+    }
+}
+
+// Whether the host's factory has an object that is a member of the group at this place.
+fn has_object(world: &World, place: usize, host: HostNo) -> bool
+    requires within { place < length world.now.groups }
+    requires kept { IsKeptWorld world.now }
+    ensures { (g : Group) → slice_get world.now.groups place ≡ Some g → result ≡ has_object world.now host.0 g }
+{
+    if world.is_deleted(place) {
+        return false;
+    }
+    world.group(place).newest().members.has(host)
+}
+
+// How many objects a host's factory has.
+fn objects_at(world: &World, host: HostNo) -> usize
+    requires { IsKeptWorld world.now }
+    ensures { result ≡ objects_at world.now host.0 }
+{
+    let mut objects = 0;
+    for place in 0..world.group_count() {
+        if has_object(world, place, host) {
+            objects += 1;
+        }
+    }
+    objects
+}
+
+fn can_make(world: &World, host: HostNo) -> bool
+    requires { IsKeptWorld world.now }
+    ensures { result ≡ can_make world.now host.0 }
+{
+    world.is_up(host) && objects_at(world, host) < OBJECT_LIMIT
+}
+
+// Whether a list of hosts has this one.
+fn is_listed_in(alloc: Global, text: &[u8], host: HostNo) -> Result<bool, NoMemory>
+    ensures { IfOk result (λ listed. listed ≡ is_listed_in host.0 (factories text.now)) }
+{
+    match factories(alloc, text)? {
+        None => Ok(false),
+        Some(hosts) => Ok(hosts.has(host)),
+    }
+}
+
+// Whether the group's property Factories lists the host.
+fn is_listed(world: &World, place: usize, host: HostNo) -> Result<bool, NoMemory>
+    requires { place < length world.now.groups }
+    ensures { (g : Group) → slice_get world.now.groups place ≡ Some g → IfOk result (λ listed. listed ≡ is_listed world.now g host.0) }
+{
+    let group = world.group(place).id();
+    match world.properties().value(group, PropertyName::Factories) {
+        None => Ok(false),
+        Some(text) => is_listed_in(world.alloc(), text, host),
+    }
+}
+
+// What is asked of the group at this place where the host is to make a member of it.
+fn creation(world: &World, place: usize, host: HostNo) -> Result<Change, NoMemory>
+    requires within { place < length world.now.groups }
+    requires kept { IsKeptWorld world.now }
+    ensures value { (g : Group) → slice_get world.now.groups place ≡ Some g → IfOk result (λ change. change ≡ creation world.now g host.0) }
+    ensures host { IfOk result (λ change. host_of_change change ≡ host) }
+{
+    let listed = is_listed(world, place, host)?;
+    let made = can_make(world, host);
+    Ok(Change::Create { host, listed, made })
+}
+
+// The host makes a member of the group at this place.
+fn grow<L: Ledger>(
+    world: &mut World,
+    place: usize,
+    number: u64,
+    steps: &mut Steps<L>,
+) -> Result<ReportLines, LineFault>
+    requires within { place < length world.old.groups }
+    requires kept { IsKeptWorld world.old }
+    ensures { (g : Group) → slice_get world.old.groups place ≡ Some g →
+        Acts (grow_to world.old (There (placed place g)) number) result world.old world.new steps.old steps.new }
+{
+    let host = match world.host(number) {
+        Some(host) => host,
+        None => return Err(LineFault::Unknown),
+    };
+    let change = match creation(world, place, host) {
+        Ok(change) => change,
+        Err(NoMemory) => return Err(LineFault::NoMemory),
+    };
+    match change_members(world, place, change, host, steps) {
+        Ok(report) => Ok(report),
+        Err(NoMemory) => Err(LineFault::NoMemory),
+    }
+}
+
+/// `grow G H`
+pub fn grow_line<L: Ledger>(
+    world: &mut World,
+    group: &Name,
+    number: u64,
+    steps: &mut Steps<L>,
+) -> Result<ReportLines, LineFault>
+    requires { IsKeptWorld world.old }
+    ensures { Acts (grow_line world.old group.now number) result world.old world.new steps.old steps.new }
+{
+    match group_called(world, group) {
+        Named::Never => Err(LineFault::Unknown),
+        Named::Deleted(_) => gone_at(world, number),
+        Named::There(place) => grow(world, place, number, steps),
+    }
+}
+
+/// `delete G`
+pub fn delete_line(world: &mut World, name: &Name) -> Result<ReportLines, LineFault>
+    ensures { (calls : ℕ) → Acts (delete_line world.old name.now) result world.old world.new calls calls }
+{
+    let place = match group_called(world, name) {
+        Named::There(place) => place,
+        Named::Deleted(_) => return gone(world),
+        Named::Never => return Err(LineFault::Unknown),
+    };
+    let group = world.group(place).name().copy(world.alloc())?;
+    let report = one_line(world.alloc(), ReportLine::Deleted { group })?;
+    world.delete_group(place);
+    Ok(report)
+}

@@ -1,0 +1,170 @@
+//! Hosts that stop and start, and members that change.
+ghost use Rattle.std.specs.Prelude.{◌≡◌, ℕ, ◌<◌, [], ◌∷◌, IfOk, Some, length, slice_get};
+ghost use Rattle.world_turns.specs.Answers.{Acts, Does};
+ghost use Rattle.world_management.specs.Hosts.{change_line, change_of, change_to, changes_members, crash_line, on_host, restart_line, show_line};
+ghost use Rattle.world_turns.specs.Naming.{There, gone};
+ghost use Rattle.ft_base.specs.declared.limits.TheConstants.{HOST_LIMIT};
+ghost use Rattle.script_world.specs.Sound.{IsKeptWorld};
+ghost use Rattle.group_model.specs.Changes.{host_of_change};
+ghost use Rattle.script_groups.specs.Groups.{ScriptGroup as Group, placed};
+
+use fault_script::{LineFault, MemberChange};
+use ft_base::{HostNo, Name, NoMemory, Steps};
+use ft_report::{ReportLine, ReportLines};
+use group_model::{Change, Event, GroupAnswer};
+use script_world::World;
+use std::alloc::Global;
+use std::sync::ledger::Ledger;
+use world_turns::{Named, gone, group_called, one_line, send_all, view_report};
+
+fn change_of(change: MemberChange, host: HostNo) -> Change
+    ensures { result ≡ change_of change host }
+{
+    match change {
+        MemberChange::Add => Change::Add(host),
+        MemberChange::Remove => Change::Remove(host),
+        MemberChange::Primary => Change::Primary(host),
+        MemberChange::Report => Change::Report(host),
+    }
+}
+
+/// `crash H`
+pub fn crash_line<L: Ledger>(
+    world: &mut World,
+    number: u64,
+    steps: &mut Steps<L>,
+) -> Result<ReportLines, LineFault>
+    requires { IsKeptWorld world.old }
+    ensures { Acts (crash_line world.old number) result world.old world.new steps.old steps.new }
+{
+    let host = match world.host(number) {
+        Some(host) => host,
+        None => return Err(LineFault::Unknown),
+    };
+    let report = one_line(world.alloc(), ReportLine::Down { host })?;
+    if world.is_up(host) {
+        if let Err(NoMemory) = world.set_power(host, false, steps) {
+            return Err(LineFault::NoMemory);
+        }
+    }
+    Ok(report)
+}
+
+/// `restart H`
+pub fn restart_line<L: Ledger>(
+    world: &mut World,
+    number: u64,
+    steps: &mut Steps<L>,
+) -> Result<ReportLines, LineFault>
+    requires { IsKeptWorld world.old }
+    ensures { Acts (restart_line world.old number) result world.old world.new steps.old steps.new }
+{
+    let host = match world.host(number) {
+        Some(host) => host,
+        None => return Err(LineFault::Unknown),
+    };
+    let report = one_line(world.alloc(), ReportLine::Up { host })?;
+    if !world.is_up(host) {
+        if let Err(NoMemory) = world.set_power(host, true, steps) {
+            return Err(LineFault::NoMemory);
+        }
+    }
+    Ok(report)
+}
+
+// The group at this place has its members changed, and all who are concerned are told.
+pub(crate) fn change_members<L: Ledger>(
+    world: &mut World,
+    place: usize,
+    change: Change,
+    host: HostNo,
+    steps: &mut Steps<L>,
+) -> Result<ReportLines, NoMemory>
+    requires within { place < length world.old.groups }
+    requires host { host.0 < HOST_LIMIT }
+    requires named { host_of_change change ≡ host }
+    requires kept { IsKeptWorld world.old }
+    ensures { (g : Group) → slice_get world.old.groups place ≡ Some g →
+        Does (changes_members world.old (placed place g) change host) result world.new steps.old steps.new }
+{
+    let alloc = world.alloc();
+    let name = world.group(place).name().copy(alloc)?;
+    let group = world.group(place).id();
+    match world.event_at(place, Event::Manage(change), steps) {
+        GroupAnswer::Changed { view, out } => {
+            let mut report = view_report(alloc, &name, view)?;
+            send_all(world, &mut report, group, &name, host, out)?;
+            Ok(report)
+        }
+        GroupAnswer::Refused(why) => one_line(alloc, ReportLine::Refused(why)),
+        GroupAnswer::NoMemory => Err(NoMemory),
+        _ => Ok(ReportLines::new(alloc)),
+    }
+}
+
+// What a line about a host prints of a group that was deleted.
+pub(crate) fn gone_at(world: &World, number: u64) -> Result<ReportLines, LineFault>
+    ensures { (calls : ℕ) → Acts (on_host world.now number (gone world.now)) result world.now world.now calls calls }
+{
+    match world.host(number) {
+        Some(_) => gone(world),
+        None => Err(LineFault::Unknown),
+    }
+}
+
+// The group at this place has its members changed.
+fn change_at<L: Ledger>(
+    world: &mut World,
+    place: usize,
+    change: MemberChange,
+    number: u64,
+    steps: &mut Steps<L>,
+) -> Result<ReportLines, LineFault>
+    requires within { place < length world.old.groups }
+    requires kept { IsKeptWorld world.old }
+    ensures { (g : Group) → slice_get world.old.groups place ≡ Some g →
+        Acts (change_to world.old (There (placed place g)) change number) result world.old world.new steps.old steps.new }
+{
+    let host = match world.host(number) {
+        Some(host) => host,
+        None => return Err(LineFault::Unknown),
+    };
+    match change_members(world, place, change_of(change, host), host, steps) {
+        Ok(report) => Ok(report),
+        Err(NoMemory) => Err(LineFault::NoMemory),
+    }
+}
+
+/// `add G H`, `remove G H`, `primary G H`, `report G H`
+pub fn change_line<L: Ledger>(
+    world: &mut World,
+    change: MemberChange,
+    group: &Name,
+    number: u64,
+    steps: &mut Steps<L>,
+) -> Result<ReportLines, LineFault>
+    requires { IsKeptWorld world.old }
+    ensures { Acts (change_line world.old change group.now number) result world.old world.new steps.old steps.new }
+{
+    match group_called(world, group) {
+        Named::Never => Err(LineFault::Unknown),
+        Named::Deleted(_) => gone_at(world, number),
+        Named::There(place) => change_at(world, place, change, number, steps),
+    }
+}
+
+/// `show G`
+pub fn show_line(world: &World, name: &Name) -> Result<ReportLines, LineFault>
+    requires { IsKeptWorld world.now }
+    ensures { (calls : ℕ) → Acts (show_line world.now name.now) result world.now world.now calls calls }
+{
+    let place = match group_called(world, name) {
+        Named::There(place) => place,
+        Named::Deleted(_) => return gone(world),
+        Named::Never => return Err(LineFault::Unknown),
+    };
+    match world.group(place).shown(world.alloc()) {
+        Ok(report) => Ok(report),
+        Err(NoMemory) => Err(LineFault::NoMemory),
+    }
+}

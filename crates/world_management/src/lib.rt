@@ -1,0 +1,15 @@
+//! Lines of a script that make hosts, groups and clients, that stop and start hosts, and by which groups are managed
+//! and read. (Chapter 23, ObjectGroupManager, GenericFactory and PropertyManager.)
+#![tactic(auto)]
+
+mod creating;
+mod hosts;
+mod making;
+mod properties;
+mod reading;
+
+pub use creating::{create_line, delete_line, grow_line};
+pub use hosts::{change_line, crash_line, restart_line, show_line};
+pub use making::{client_line, group_line, hosts_line, tick_line};
+pub use properties::{get_group_line, get_line, set_group_line, set_line, unset_line};
+pub use reading::{id_line, locations_line, member_line, ref_line};

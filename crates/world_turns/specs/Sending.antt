@@ -1,0 +1,33 @@
+-- What a group sends, as messages and as lines.
+use Rattle.std.specs.Prelude.{ℕ, suc, List, [], ◌∷◌, map}
+use Rattle.ft_base.specs.declared.numbers.GroupId.{GroupId}
+use Rattle.ft_base.specs.declared.numbers.HostNo.{HostNo}
+use Rattle.ft_base.specs.declared.views.View.{View}
+use Rattle.ft_report.specs.declared.reports.ReportLine.{ReportLine}
+use Rattle.ft_report.specs.declared.reports.ReportLine.TheVariants as reports
+use Rattle.group_model.specs.declared.events.Inner.{Inner}
+use Rattle.group_model.specs.declared.events.Inner.TheVariants as inners
+use Rattle.group_model.specs.declared.events.Out.{Out}
+use Rattle.script_world.specs.declared.messages.Message.{Message}
+use Rattle.script_world.specs.declared.messages.Message.TheVariants as messages
+
+-- a view of the group with this name, as it is printed
+abbrev pub view_line : List ℕ → View → ReportLine
+view_line name view = reports.View name view.version view.members view.primary
+
+abbrev pub carried : GroupId → Out → Message
+carried group out = messages.Carried group out
+
+abbrev pub all_carried : GroupId → List Out → List Message
+all_carried group outs = map (carried group) outs
+
+-- a message with this number from a host of the group with this name; a view is from the manager
+abbrev pub sent_line : ℕ → List ℕ → HostNo → HostNo → Inner → ReportLine
+sent_line number name from to (inners.View version) = reports.ViewMessage number to name version
+sent_line number name from to (inners.State position state) = reports.StateMessage number from to name position
+sent_line number name from to (inners.Update base position update) = reports.UpdateMessage number from to name base position
+sent_line number name from to (inners.Order index request) = reports.OrderMessage number from to name index
+
+unfoldable pub sent_lines : ℕ → List ℕ → HostNo → List Out → List ReportLine
+sent_lines number name from [] = []
+sent_lines number name from (out ∷ outs) = sent_line number name from out.to out.carried ∷ sent_lines (suc number) name from outs

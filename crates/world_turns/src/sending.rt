@@ -1,0 +1,113 @@
+//! What a group sends becomes messages.
+ghost use Rattle.std.specs.Prelude.{◌≡◌, ◌+◌, ◌++◌, [], ◌∷◌, IfOk, OnOk, length};
+ghost use Rattle.std.specs.List.{AllByRecursion};
+ghost use Rattle.world_turns.specs.Sending.{all_carried, carried, sent_line, sent_lines, view_line};
+ghost use Rattle.script_world.specs.Sound.{IsOnItsWay};
+ghost use Rattle.script_world.specs.World.{with_messages};
+
+use ft_base::{GroupId, HostNo, Name, NoMemory, View};
+use ft_report::{ReportLine, ReportLines};
+use group_model::{Inner, Out, OutList};
+use script_world::{Message, World};
+use std::alloc::Global;
+
+/// A view as it is printed.
+pub fn view_report(alloc: Global, name: &Name, view: View) -> Result<ReportLines, NoMemory>
+    ensures { IfOk result (λ report. report ≡ view_line name.now view ∷ []) }
+{
+    let mut report = ReportLines::new(alloc);
+    let group = name.copy(alloc)?;
+    report.push(ReportLine::View {
+        group,
+        version: view.version,
+        members: view.members,
+        primary: view.primary,
+    })?;
+    Ok(report)
+}
+
+// The line of a message to a host of a group.
+fn sent_line(
+    alloc: Global,
+    message: u64,
+    name: &Name,
+    from: HostNo,
+    to: HostNo,
+    carried: &Inner,
+) -> Result<ReportLine, NoMemory>
+    ensures { IfOk result (λ line. line ≡ sent_line message name.now from to carried.now) }
+{
+    let group = name.copy(alloc)?;
+    match carried {
+        Inner::View { version } => Ok(ReportLine::ViewMessage {
+            message,
+            host: to,
+            group,
+            version: *version,
+        }),
+        Inner::State { position, .. } => Ok(ReportLine::StateMessage {
+            message,
+            from,
+            to,
+            group,
+            position: *position,
+        }),
+        Inner::Update {
+            from: base,
+            to: position,
+            ..
+        } => Ok(ReportLine::UpdateMessage {
+            message,
+            from,
+            to,
+            group,
+            base: *base,
+            position: *position,
+        }),
+        Inner::Order { index, .. } => Ok(ReportLine::OrderMessage {
+            message,
+            from,
+            to,
+            group,
+            index: *index,
+        }),
+    }
+}
+
+// Sends one, and prints it.
+fn send_out(
+    world: &mut World,
+    report: &mut ReportLines,
+    group: GroupId,
+    name: &Name,
+    from: HostNo,
+    out: Out,
+) -> Result<(), NoMemory>
+    requires { IsOnItsWay world.old.groups (carried group out) }
+    ensures world { OnOk result (world.new ≡ with_messages world.old (carried group out ∷ [])) }
+    ensures report { OnOk result (report.new ≡ report.old ++ sent_line (length world.old.messages + 1) name.now from out.to out.carried ∷ []) }
+{
+    let number = world.message_count() as u64 + 1;
+    let line = sent_line(world.alloc(), number, name, from, out.to, &out.carried)?;
+    report.push(line)?;
+    world.send(Message::Carried { group, out })
+}
+
+/// Sends all of them in order, and prints each.
+pub fn send_all(
+    world: &mut World,
+    report: &mut ReportLines,
+    group: GroupId,
+    name: &Name,
+    from: HostNo,
+    outs: OutList,
+) -> Result<(), NoMemory>
+    requires { AllByRecursion (λ out. IsOnItsWay world.old.groups (carried group out)) outs }
+    ensures world { OnOk result (world.new ≡ with_messages world.old (all_carried group outs)) }
+    ensures report { OnOk result (report.new ≡ report.old ++ sent_lines (length world.old.messages + 1) name.now from outs) }
+{
+    for out in outs.into_vec() {
+        send_out(world, report, group, name, from, out)?;
+    }
+    Ok(())
+}
