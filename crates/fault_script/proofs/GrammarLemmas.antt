@@ -11,7 +11,7 @@ use Rattle.ft_base.specs.declared.views.Style.TheVariants as styles
 use Rattle.fault_script.specs.Words.{is_comment, is_script_name, is_operation, only}
 use Rattle.fault_script.specs.Numbers.{number, capped, host_number, host_numbers, from_one, positive_number}
 use Rattle.fault_script.specs.Arguments.{octets_of}
-use Rattle.fault_script.specs.Forms.{is_unbuilt, change_of, making, verb, only_host, hosts_of, hosts_line, kind_of, style_of, built_group, group_of, group_line, client_line, call_line, bind_line, stop_named, stop_of, deliver_of, deliver_line, tick_of, tick_line, show_line, asked_of, locations_line, id_line, ref_line, timeout_line, member_at, member_line, inject_of, inject_line, change_at, change_line, crash_of, restart_of, grow_at, grow_line, delete_line, line_of_verb, line_of, as_some, parse_words}
+use Rattle.fault_script.specs.Forms.{is_unbuilt, change_of, watching, making, verb, only_host, hosts_of, hosts_line, kind_of, style_of, built_group, group_of, group_line, client_line, call_line, bind_line, stop_named, stop_of, deliver_of, deliver_line, tick_of, tick_line, show_line, asked_of, locations_line, id_line, ref_line, timeout_line, member_at, member_line, inject_of, inject_line, change_at, change_line, crash_of, restart_of, grow_at, grow_line, delete_line, poll_line, sweep_line, subscribe_line, unsubscribe_line, pull_line, line_of_verb, line_of, as_some, parse_words}
 use Rattle.fault_script.specs.Grammar.{Spells, IsNumber, kind_word, stop_words, change_word}
 use Rattle.fault_script.proofs.FormLemmas.{guarded, guarded_not, same_text, text_case, kind_named, host_some, only_host_some}
 use Rattle.fault_script.proofs.EachLemmas.{each_apart}
@@ -297,6 +297,28 @@ grow_spelled (group ∷ rest) line e = grow_found group rest (only_host rest) li
 delete_spelled : (rest : List (List ℕ)) (line : Line) → delete_line rest ≡ Ok line → Spells (codes "delete" ∷ rest) line
 delete_spelled = asked_spelled (codes "delete") (λ name. lines.Delete name) (λ name named. (refl, named))
 
+-- faults
+poll_spelled : (rest : List (List ℕ)) (line : Line) → poll_line rest ≡ Ok line → Spells (codes "poll" ∷ rest) line
+poll_spelled = asked_spelled (codes "poll") (λ name. lines.Poll name) (λ name named. (refl, named))
+
+sweep_spelled : (rest : List (List ℕ)) (line : Line) → sweep_line rest ≡ Ok line → Spells (codes "sweep" ∷ rest) line
+sweep_spelled = asked_spelled (codes "sweep") (λ name. lines.Sweep name) (λ name named. (refl, named))
+
+unsubscribe_spelled : (rest : List (List ℕ)) (line : Line) → unsubscribe_line rest ≡ Ok line → Spells (codes "unsubscribe" ∷ rest) line
+unsubscribe_spelled = asked_spelled (codes "unsubscribe") (λ name. lines.Unsubscribe name) (λ name named. (refl, named))
+
+pull_spelled : (rest : List (List ℕ)) (line : Line) → pull_line rest ≡ Ok line → Spells (codes "pull" ∷ rest) line
+pull_spelled = asked_spelled (codes "pull") (λ name. lines.Pull name) (λ name named. (refl, named))
+
+subscribe_spelled : (rest : List (List ℕ)) (line : Line) → subscribe_line rest ≡ Ok line → Spells (codes "subscribe" ∷ rest) line
+subscribe_spelled [] line e = cc
+subscribe_spelled (subscriber ∷ []) line e = cc
+subscribe_spelled (subscriber ∷ filter ∷ []) line e =
+    let named = guarded (is_script_name subscriber) (Ok (lines.Subscribe subscriber filter)) Syntax line e in
+    let same : lines.Subscribe subscriber filter ≡ line = cc in
+    subst (λ (l : Line). Spells (codes "subscribe" ∷ subscriber ∷ filter ∷ []) l) same (refl, named.0)
+subscribe_spelled (subscriber ∷ filter ∷ next ∷ rest) line e = cc
+
 -- the first word
 spelling : Verb → List ℕ
 spelling verbs.Hosts = codes "hosts"
@@ -322,6 +344,11 @@ spelling verbs.Unset = codes "unset"
 spelling verbs.Get = codes "get"
 spelling verbs.Grow = codes "grow"
 spelling verbs.Delete = codes "delete"
+spelling verbs.Poll = codes "poll"
+spelling verbs.Sweep = codes "sweep"
+spelling verbs.Subscribe = codes "subscribe"
+spelling verbs.Unsubscribe = codes "unsubscribe"
+spelling verbs.Pull = codes "pull"
 
 change_named : (word : List ℕ) (change : MemberChange) → change_of word ≡ Some change → word ≡ change_word change
 change_named word change =
@@ -338,6 +365,16 @@ change_verb first (Some change) found a e =
     let same : verbs.Change change ≡ found = cc in
     change_named first change a ∙ ap spelling same
 
+watching_spelled : (first : List ℕ) (found : Verb) → watching first ≡ Some found → first ≡ spelling found
+unfolding spelling
+watching_spelled first found =
+    text_case (λ w. w) spelling (bytes_eq first (codes "poll")) first (codes "poll") verbs.Poll found _ refl refl
+    (text_case (λ w. w) spelling (bytes_eq first (codes "sweep")) first (codes "sweep") verbs.Sweep found _ refl refl
+    (text_case (λ w. w) spelling (bytes_eq first (codes "subscribe")) first (codes "subscribe") verbs.Subscribe found _ refl refl
+    (text_case (λ w. w) spelling (bytes_eq first (codes "unsubscribe")) first (codes "unsubscribe") verbs.Unsubscribe found _ refl refl
+    (text_case (λ w. w) spelling (bytes_eq first (codes "pull")) first (codes "pull") verbs.Pull found _ refl refl
+    (change_verb first (change_of first) found refl)))))
+
 making_spelled : (first : List ℕ) (found : Verb) → making first ≡ Some found → first ≡ spelling found
 unfolding spelling
 making_spelled first found =
@@ -347,7 +384,7 @@ making_spelled first found =
     (text_case (λ w. w) spelling (bytes_eq first (codes "get")) first (codes "get") verbs.Get found _ refl refl
     (text_case (λ w. w) spelling (bytes_eq first (codes "grow")) first (codes "grow") verbs.Grow found _ refl refl
     (text_case (λ w. w) spelling (bytes_eq first (codes "delete")) first (codes "delete") verbs.Delete found _ refl refl
-    (change_verb first (change_of first) found refl))))))
+    (watching_spelled first found))))))
 
 verb_spelled : (first : List ℕ) (found : Verb) → verb first ≡ Some found → first ≡ spelling found
 unfolding spelling
@@ -419,6 +456,16 @@ verb_line_spelled (Some verbs.Grow) first rest line v e =
     subst (λ (w : List ℕ). Spells (w ∷ rest) line) (sym (verb_spelled first verbs.Grow v)) (grow_spelled rest line e)
 verb_line_spelled (Some verbs.Delete) first rest line v e =
     subst (λ (w : List ℕ). Spells (w ∷ rest) line) (sym (verb_spelled first verbs.Delete v)) (delete_spelled rest line e)
+verb_line_spelled (Some verbs.Poll) first rest line v e =
+    subst (λ (w : List ℕ). Spells (w ∷ rest) line) (sym (verb_spelled first verbs.Poll v)) (poll_spelled rest line e)
+verb_line_spelled (Some verbs.Sweep) first rest line v e =
+    subst (λ (w : List ℕ). Spells (w ∷ rest) line) (sym (verb_spelled first verbs.Sweep v)) (sweep_spelled rest line e)
+verb_line_spelled (Some verbs.Subscribe) first rest line v e =
+    subst (λ (w : List ℕ). Spells (w ∷ rest) line) (sym (verb_spelled first verbs.Subscribe v)) (subscribe_spelled rest line e)
+verb_line_spelled (Some verbs.Unsubscribe) first rest line v e =
+    subst (λ (w : List ℕ). Spells (w ∷ rest) line) (sym (verb_spelled first verbs.Unsubscribe v)) (unsubscribe_spelled rest line e)
+verb_line_spelled (Some verbs.Pull) first rest line v e =
+    subst (λ (w : List ℕ). Spells (w ∷ rest) line) (sym (verb_spelled first verbs.Pull v)) (pull_spelled rest line e)
 
 as_some_line : (read : Result Line LineFault) (line : Line) → as_some read ≡ Ok (Some line) → read ≡ Ok line
 as_some_line (Ok other) line e = cc

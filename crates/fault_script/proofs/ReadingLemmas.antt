@@ -148,6 +148,16 @@ spelled_is_read ws (lines.Grow group host) s =
     (ap as_some (grow_read group s.0 host s.2 s.3))
 spelled_is_read ws (lines.Delete name) s =
     subst (λ (w : List (List ℕ)). parse_words w ≡ Ok (Some (lines.Delete name))) (sym s.0) (rw s.1 refl)
+spelled_is_read ws (lines.Poll name) s =
+    subst (λ (w : List (List ℕ)). parse_words w ≡ Ok (Some (lines.Poll name))) (sym s.0) (rw s.1 refl)
+spelled_is_read ws (lines.Sweep name) s =
+    subst (λ (w : List (List ℕ)). parse_words w ≡ Ok (Some (lines.Sweep name))) (sym s.0) (rw s.1 refl)
+spelled_is_read ws (lines.Subscribe subscriber filter) s =
+    subst (λ (w : List (List ℕ)). parse_words w ≡ Ok (Some (lines.Subscribe subscriber filter))) (sym s.0) (rw s.1 refl)
+spelled_is_read ws (lines.Unsubscribe name) s =
+    subst (λ (w : List (List ℕ)). parse_words w ≡ Ok (Some (lines.Unsubscribe name))) (sym s.0) (rw s.1 refl)
+spelled_is_read ws (lines.Pull name) s =
+    subst (λ (w : List (List ℕ)). parse_words w ≡ Ok (Some (lines.Pull name))) (sym s.0) (rw s.1 refl)
 
 -- a line that is too long is refused, whatever stands in it
 pub parse-long : (text : List ℕ) → 4096 < length text → parse text ≡ Err (Limit limits.Line)

@@ -29,8 +29,7 @@ use Rattle.fault_script.specs.declared.verbs.Verb.TheVariants as verbs
 -- the first words of lines that are not built yet
 abbrev pub unbuilt : List (List ℕ)
 unbuilt =
-    codes "poll" ∷ codes "sweep" ∷ codes "subscribe" ∷ codes "unsubscribe" ∷ codes "pull" ∷ codes "checkpoint"
-    ∷ codes "update" ∷ codes "logfail" ∷ []
+    codes "checkpoint" ∷ codes "update" ∷ codes "logfail" ∷ []
 
 -- a line with this first word is `later`
 abbrev pub is_unbuilt : List ℕ → Bool
@@ -45,6 +44,16 @@ change_of first =
     else (if bytes_eq first (codes "report") then Some changes.Report
     else None)))
 
+-- the first words of lines that look for faults or tell of them, or change a group's members
+abbrev pub watching : List ℕ → Option Verb
+watching first =
+    if bytes_eq first (codes "poll") then Some verbs.Poll
+    else (if bytes_eq first (codes "sweep") then Some verbs.Sweep
+    else (if bytes_eq first (codes "subscribe") then Some verbs.Subscribe
+    else (if bytes_eq first (codes "unsubscribe") then Some verbs.Unsubscribe
+    else (if bytes_eq first (codes "pull") then Some verbs.Pull
+    else option_map (λ change. verbs.Change change) (change_of first)))))
+
 -- the first words of lines that make a group by properties, set these, or change a group
 abbrev pub making : List ℕ → Option Verb
 making first =
@@ -54,7 +63,7 @@ making first =
     else (if bytes_eq first (codes "get") then Some verbs.Get
     else (if bytes_eq first (codes "grow") then Some verbs.Grow
     else (if bytes_eq first (codes "delete") then Some verbs.Delete
-    else option_map (λ change. verbs.Change change) (change_of first))))))
+    else watching first)))))
 
 -- the first words of lines that are built
 abbrev pub verb : List ℕ → Option Verb
@@ -195,7 +204,7 @@ show_of (Some name) = if is_script_name name then Ok (lines.Show name) else Err 
 abbrev pub show_line : List (List ℕ) → Result Line LineFault
 show_line rest = show_of (only rest)
 
--- what is asked of a group or a client, by its name
+-- what is asked of a group, a client or a subscriber, by its name
 abbrev pub asked_of : (List ℕ → Line) → Option (List ℕ) → Result Line LineFault
 asked_of asked None = Err Syntax
 asked_of asked (Some name) = if is_script_name name then Ok (asked name) else Err Syntax
@@ -364,6 +373,33 @@ abbrev pub get_line : List (List ℕ) → Result Line LineFault
 get_line [] = Err Syntax
 get_line (place ∷ rest) = if bytes_eq place (codes "group") then get_group rest else get_at (level_of (place ∷ rest))
 
+-- `poll G`
+abbrev pub poll_line : List (List ℕ) → Result Line LineFault
+poll_line rest = asked_of (λ name. lines.Poll name) (only rest)
+
+-- `sweep G`
+abbrev pub sweep_line : List (List ℕ) → Result Line LineFault
+sweep_line rest = asked_of (λ name. lines.Sweep name) (only rest)
+
+-- a subscriber by its name, and a filter, which is any word
+abbrev pub subscribe_of : List ℕ → Option (List ℕ) → Result Line LineFault
+subscribe_of subscriber None = Err Syntax
+subscribe_of subscriber (Some filter) =
+    if is_script_name subscriber then Ok (lines.Subscribe subscriber filter) else Err Syntax
+
+-- `subscribe S FILTER`
+abbrev pub subscribe_line : List (List ℕ) → Result Line LineFault
+subscribe_line [] = Err Syntax
+subscribe_line (subscriber ∷ rest) = subscribe_of subscriber (only rest)
+
+-- `unsubscribe S`
+abbrev pub unsubscribe_line : List (List ℕ) → Result Line LineFault
+unsubscribe_line rest = asked_of (λ name. lines.Unsubscribe name) (only rest)
+
+-- `pull S`
+abbrev pub pull_line : List (List ℕ) → Result Line LineFault
+pull_line rest = asked_of (λ name. lines.Pull name) (only rest)
+
 -- the line of each first word that is built
 abbrev pub line_of_verb : Option Verb → List (List ℕ) → Result Line LineFault
 line_of_verb None rest = Err Syntax
@@ -390,6 +426,11 @@ line_of_verb (Some verbs.Unset) rest = unset_line rest
 line_of_verb (Some verbs.Get) rest = get_line rest
 line_of_verb (Some verbs.Grow) rest = grow_line rest
 line_of_verb (Some verbs.Delete) rest = delete_line rest
+line_of_verb (Some verbs.Poll) rest = poll_line rest
+line_of_verb (Some verbs.Sweep) rest = sweep_line rest
+line_of_verb (Some verbs.Subscribe) rest = subscribe_line rest
+line_of_verb (Some verbs.Unsubscribe) rest = unsubscribe_line rest
+line_of_verb (Some verbs.Pull) rest = pull_line rest
 
 -- the line of a first word and the words behind it
 abbrev pub line_of : List ℕ → List (List ℕ) → Result Line LineFault

@@ -16,7 +16,7 @@ use Rattle.fault_script.specs.declared.lines.MemberChange.TheVariants.{Add, Remo
 use Rattle.fault_script.specs.declared.lines.Level.{Level}
 use Rattle.fault_script.specs.declared.lines.Level.TheVariants as levels
 use Rattle.fault_script.specs.declared.lines.Line.{Line}
-use Rattle.fault_script.specs.declared.lines.Line.TheVariants.{Hosts, Group, Client, Call, Bind, Timeout, Deliver, Tick, Show, Locations, Id, Ref, MemberRef, Inject, Change, Crash, Restart, Create, Set, SetGroup, Unset, Get, GetGroup, Grow, Delete}
+use Rattle.fault_script.specs.declared.lines.Line.TheVariants.{Hosts, Group, Client, Call, Bind, Timeout, Deliver, Tick, Show, Locations, Id, Ref, MemberRef, Inject, Change, Crash, Restart, Create, Set, SetGroup, Unset, Get, GetGroup, Grow, Delete, Poll, Sweep, Subscribe, Unsubscribe, Pull}
 
 -- a word is a number, which no more than 64 bits keep
 abbrev pub IsNumber : List ℕ → ℕ → Type 0
@@ -106,3 +106,9 @@ Spells words (GetGroup group name) =
 Spells words (Grow group host) =
     (digits : List ℕ) × (words ≡ codes "grow" ∷ group ∷ digits ∷ []) × (is_script_name group ≡ true) × IsNumber digits host
 Spells words (Delete name) = (words ≡ codes "delete" ∷ name ∷ []) × (is_script_name name ≡ true)
+Spells words (Poll name) = (words ≡ codes "poll" ∷ name ∷ []) × (is_script_name name ≡ true)
+Spells words (Sweep name) = (words ≡ codes "sweep" ∷ name ∷ []) × (is_script_name name ≡ true)
+Spells words (Subscribe subscriber filter) =
+    (words ≡ codes "subscribe" ∷ subscriber ∷ filter ∷ []) × (is_script_name subscriber ≡ true)
+Spells words (Unsubscribe name) = (words ≡ codes "unsubscribe" ∷ name ∷ []) × (is_script_name name ≡ true)
+Spells words (Pull name) = (words ≡ codes "pull" ∷ name ∷ []) × (is_script_name name ≡ true)

@@ -5,6 +5,7 @@ mod arguments;
 mod criteria;
 mod forms;
 mod lines;
+mod monitors;
 mod names;
 mod numerals;
 mod options;

@@ -177,6 +177,20 @@ pub enum Line {
     },
     /// `delete G`: the group is no more.
     Delete(Name),
+    /// `poll G`: members that are due are asked whether they are alive.
+    Poll(Name),
+    /// `sweep G`: members that haven't answered in time are reported as faulty.
+    Sweep(Name),
+    /// `subscribe S FILTER`: a subscriber to faults. The filter is a word as it stands; whether it is one
+    /// is judged with the line's effect.
+    Subscribe {
+        subscriber: Name,
+        filter: Bytes,
+    },
+    /// `unsubscribe S`: the subscriber is told nothing any more.
+    Unsubscribe(Name),
+    /// `pull S`: prints the faults that the subscriber wasn't told yet.
+    Pull(Name),
 }
 
 /// What there are only so many of.

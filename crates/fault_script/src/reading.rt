@@ -12,6 +12,7 @@ use crate::forms::{
     read_restart, read_show, read_tick, read_timeout,
 };
 use crate::lines::{LimitName, Line, LineFault};
+use crate::monitors::{read_poll, read_pull, read_subscribe, read_sweep, read_unsubscribe};
 use crate::settings::{read_get, read_set, read_unset};
 use crate::splitting::{is_comment, split_first, split_words};
 use crate::verbs::{Verb, find_verb, is_unbuilt};
@@ -51,6 +52,11 @@ fn read_form(alloc: Global, first: &[u8], rest: &[&[u8]]) -> Result<Line, LineFa
         Some(Verb::Get) => read_get(alloc, rest),
         Some(Verb::Grow) => read_grow(alloc, rest),
         Some(Verb::Delete) => read_delete(alloc, rest),
+        Some(Verb::Poll) => read_poll(alloc, rest),
+        Some(Verb::Sweep) => read_sweep(alloc, rest),
+        Some(Verb::Subscribe) => read_subscribe(alloc, rest),
+        Some(Verb::Unsubscribe) => read_unsubscribe(alloc, rest),
+        Some(Verb::Pull) => read_pull(alloc, rest),
     }
 }
 

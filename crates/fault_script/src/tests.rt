@@ -91,6 +91,14 @@ fn form(line: &Line) -> &'static [u8] {
         Line::GetGroup { group: _, name: _ } => b"get group",
         Line::Grow { group: _, host: _ } => b"grow",
         Line::Delete(_) => b"delete",
+        Line::Poll(_) => b"poll",
+        Line::Sweep(_) => b"sweep",
+        Line::Subscribe {
+            subscriber: _,
+            filter: _,
+        } => b"subscribe",
+        Line::Unsubscribe(_) => b"unsubscribe",
+        Line::Pull(_) => b"pull",
     }
 }
 
@@ -105,7 +113,7 @@ fn shown(alloc: Global, line: &[u8]) -> &'static [u8] {
 }
 
 // How lines read, with a bar between each two.
-const LINES: [(&str, &str); 38] = [
+const LINES: [(&str, &str); 43] = [
     ("nothing", "| \t\r|# frob|\r #frob"),
     ("hosts", "hosts 7|hosts\t0007\r|hosts 99999999999999999999"),
     (
@@ -173,10 +181,18 @@ const LINES: [(&str, &str); 38] = [
     ("get group", "get group g p"),
     ("grow", "grow g 0|grow g 99999999999999999999"),
     ("delete", "delete g"),
+    ("poll", "poll bank"),
+    ("sweep", "sweep\tg-2.x_Z"),
+    (
+        "subscribe",
+        "subscribe s -|subscribe s subscribe|subscribe s =,=\0",
+    ),
+    ("unsubscribe", "unsubscribe s"),
+    ("pull", "pull  s.0 "),
     (
         "later",
         concat!(
-            "group g account warm 0|group g store warm|group g queue active 1 2 3|poll c1|logfail g|",
+            "group g account warm 0|group g store warm|group g queue active 1 2 3|checkpoint|update c1|logfail g|",
             "set default org.omg.ft.ReplicationStyle ACTIVE|",
             "set type queue org.omg.ft.ReplicationStyle WARM_PASSIVE|",
             "set group g org.omg.ft.ReplicationStyle ACTIVE|",
@@ -209,7 +225,9 @@ const LINES: [(&str, &str); 38] = [
             "set default org.omg.ft.ReplicationStyle ACTIVE 1|unset|unset default|unset default p q|",
             "unset default \0|unset type p|unset type frob p|unset group g p|get|get default|get default p q|",
             "get type store|get group g|get group 0 p|get group g p q|get frob p|grow|grow g|grow g x|",
-            "grow 0 0|grow g 0 0|delete|delete 0|delete g g",
+            "grow 0 0|grow g 0 0|delete|delete 0|delete g g|poll|poll 0|poll g g|sweep|sweep 0|",
+            "sweep g 0|subscribe|subscribe s|subscribe 0 -|subscribe s - -|Subscribe s -|unsubscribe|",
+            "unsubscribe 0|unsubscribe s -|pull|pull 0|pull s s",
         ),
     ),
 ];
@@ -235,12 +253,13 @@ type Limit = (
 );
 
 // Lines, words and names at their limits.
-const LIMITS: [Limit; 24] = [
+const LIMITS: [Limit; 25] = [
     ("show g", " ", 4090, "", "show", "limit line"),
     ("#", "\r", 4095, "", "nothing", "limit line"),
     ("", " ", 4096, "", "nothing", "limit line"),
     ("", "frob ", 819, "", "syntax", "limit line"),
-    ("poll", " x", 2046, "", "later", "limit line"),
+    ("update", " x", 2045, "", "later", "limit line"),
+    ("subscribe s ", "-", 4084, "", "subscribe", "limit line"),
     ("bind ", "c", 64, " g", "bind", "syntax"),
     ("bind c ", "g", 64, "", "bind", "syntax"),
     ("crash", " x", 2045, "", "syntax", "limit line"),

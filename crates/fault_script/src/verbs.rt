@@ -1,7 +1,7 @@
 ghost use Rattle.std.specs.Prelude.{◌≡◌, ℕ, List};
 ghost use Rattle.std.specs.List.{list_any};
 ghost use Rattle.std.specs.Str.{bytes_eq};
-ghost use Rattle.fault_script.specs.Forms.{change_of, making, verb, is_unbuilt};
+ghost use Rattle.fault_script.specs.Forms.{change_of, watching, making, verb, is_unbuilt};
 
 use crate::lines::MemberChange;
 
@@ -31,6 +31,11 @@ pub(crate) enum Verb {
     Get,
     Grow,
     Delete,
+    Poll,
+    Sweep,
+    Subscribe,
+    Unsubscribe,
+    Pull,
 }
 
 fn find_change(first: &[u8]) -> Option<MemberChange>
@@ -49,7 +54,26 @@ fn find_change(first: &[u8]) -> Option<MemberChange>
     }
 }
 
-/// The line of groups by properties, or of changes of members, that a first word begins.
+/// The line about faults, or of changes of members, that a first word begins.
+fn find_watching(first: &[u8]) -> Option<Verb>
+    ensures { result ≡ watching first.now }
+{
+    if first == b"poll".as_slice() {
+        Some(Verb::Poll)
+    } else if first == b"sweep".as_slice() {
+        Some(Verb::Sweep)
+    } else if first == b"subscribe".as_slice() {
+        Some(Verb::Subscribe)
+    } else if first == b"unsubscribe".as_slice() {
+        Some(Verb::Unsubscribe)
+    } else if first == b"pull".as_slice() {
+        Some(Verb::Pull)
+    } else {
+        find_change(first).map(Verb::Change)
+    }
+}
+
+/// The line of groups by properties, about faults, or of changes of members, that a first word begins.
 fn find_making(first: &[u8]) -> Option<Verb>
     ensures { result ≡ making first.now }
 {
@@ -66,7 +90,7 @@ fn find_making(first: &[u8]) -> Option<Verb>
     } else if first == b"delete".as_slice() {
         Some(Verb::Delete)
     } else {
-        find_change(first).map(Verb::Change)
+        find_watching(first)
     }
 }
 
@@ -111,16 +135,7 @@ pub(crate) fn find_verb(first: &[u8]) -> Option<Verb>
     }
 }
 
-static UNBUILT: [&[u8]; 8] = [
-    b"poll",
-    b"sweep",
-    b"subscribe",
-    b"unsubscribe",
-    b"pull",
-    b"checkpoint",
-    b"update",
-    b"logfail",
-];
+static UNBUILT: [&[u8]; 3] = [b"checkpoint", b"update", b"logfail"];
 
 fn is_among(word: &[u8], texts: &[&[u8]]) -> bool
     ensures { result ≡ list_any (λ text. bytes_eq word.now text.now) texts.now }

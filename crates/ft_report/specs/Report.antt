@@ -16,7 +16,7 @@ use Rattle.giop_messages.specs.declared.faults.Why.{Why}
 use Rattle.giop_messages.specs.declared.faults.Why.TheVariants as causes
 use Rattle.group_model.specs.declared.changes.ManageFault.{ManageFault}
 use Rattle.group_model.specs.declared.changes.ManageFault.TheVariants as refusals
-use Rattle.ft_report.specs.Words.{host_text, hosts_text, line, octets_text, phrase_text}
+use Rattle.ft_report.specs.Words.{host_text, hosts_text, line, location_text, octets_text, phrase_text}
 use Rattle.ft_report.specs.declared.outcomes.Worth.{Worth}
 use Rattle.ft_report.specs.declared.outcomes.Worth.TheVariants as worths
 use Rattle.ft_report.specs.declared.outcomes.ReportOutcome.{ReportOutcome}
@@ -29,6 +29,8 @@ use Rattle.ft_report.specs.declared.reports.SettingFault.{SettingFault}
 use Rattle.ft_report.specs.declared.reports.SettingFault.TheVariants as settings
 use Rattle.ft_report.specs.declared.reports.Standing.{Standing}
 use Rattle.ft_report.specs.declared.reports.Standing.TheVariants as standings
+use Rattle.ft_report.specs.declared.reports.SubscribeFault.{SubscribeFault}
+use Rattle.ft_report.specs.declared.reports.SubscribeFault.TheVariants as subscribing
 use Rattle.ft_report.specs.declared.reports.ReportLine.{ReportLine}
 use Rattle.ft_report.specs.declared.reports.ReportLine.TheVariants as lines
 
@@ -145,6 +147,11 @@ setting_text (settings.UnsupportedProperty place) = with_number (codes "Unsuppor
 setting_text (settings.InvalidCriteria place) = with_number (codes "InvalidCriteria") place
 setting_text (settings.CannotMeetCriteria initial minimum) = with_numbers (codes "CannotMeetCriteria") initial minimum
 
+-- why a subscriber is refused
+abbrev pub subscribe_text : SubscribeFault → List ℕ
+subscribe_text (subscribing.BadFilter place) = with_number (codes "BadFilter") place
+subscribe_text (subscribing.Full count) = with_number (codes "Full") count
+
 -- what a host is in a group
 abbrev pub role_text : Role → List ℕ
 role_text roles.Primary = codes "primary"
@@ -202,18 +209,26 @@ report_text (lines.UpdateMessage message from to group base position) =
     line (between_hosts message from.0 to.0 ∷ codes "update" ∷ group ∷ decimal base ∷ decimal position ∷ [])
 report_text (lines.OrderMessage message from to group index) =
     line (between_hosts message from.0 to.0 ∷ codes "order" ∷ group ∷ decimal index ∷ [])
+report_text (lines.Ping message host group) =
+    line (codes "msg" ∷ decimal message ∷ codes "monitor to host" ∷ decimal host.0 ∷ codes "ping" ∷ group ∷ [])
+report_text (lines.Pong message host group) =
+    line (codes "msg" ∷ decimal message ∷ codes "host" ∷ decimal host.0 ∷ codes "to monitor pong" ∷ group ∷ [])
 report_text (lines.Applied message position) =
     line (codes "applied" ∷ decimal message ∷ codes "at" ∷ decimal position ∷ [])
 report_text (lines.Held message index position) =
     line (codes "held" ∷ decimal message ∷ codes "order" ∷ decimal index ∷ codes "at" ∷ decimal position ∷ [])
 report_text (lines.Known host group version) =
     line (codes "known" ∷ decimal host.0 ∷ group ∷ decimal version.0 ∷ [])
+report_text (lines.Alive group host) =
+    line (codes "alive" ∷ group ∷ decimal host.0 ∷ [])
 report_text (lines.Lost message) =
     line (codes "lost" ∷ decimal message ∷ [])
 report_text (lines.UnheardReply message) =
     line (codes "ignored" ∷ decimal message ∷ codes "reply" ∷ [])
 report_text (lines.IgnoredDeleted message) =
     line (codes "ignored" ∷ decimal message ∷ codes "deleted" ∷ [])
+report_text (lines.IgnoredUnwatched message) =
+    line (codes "ignored" ∷ decimal message ∷ codes "unwatched" ∷ [])
 report_text (lines.Ignored message why) =
     line (codes "ignored" ∷ decimal message ∷ ignored_text why ∷ [])
 report_text (lines.Adopted client group version) =
@@ -234,6 +249,20 @@ report_text (lines.Refused fault) =
     line (codes "refused" ∷ refusal_text fault ∷ [])
 report_text (lines.RefusedSetting fault) =
     line (codes "refused" ∷ setting_text fault ∷ [])
+report_text (lines.RefusedSubscriber fault) =
+    line (codes "refused" ∷ subscribe_text fault ∷ [])
+report_text (lines.PollNone group) =
+    line (codes "poll" ∷ group ∷ codes "none" ∷ [])
+report_text (lines.SweepNone group) =
+    line (codes "sweep" ∷ group ∷ codes "none" ∷ [])
+report_text (lines.Subscribed subscriber) =
+    line (codes "subscribed" ∷ subscriber ∷ [])
+report_text (lines.Unsubscribed subscriber) =
+    line (codes "unsubscribed" ∷ subscriber ∷ [])
+report_text (lines.Fault subscriber host id group) =
+    line (codes "fault" ∷ subscriber ∷ location_text host ∷ decimal id.0 ∷ group ∷ [])
+report_text (lines.NoFault subscriber) =
+    line (codes "fault" ∷ subscriber ∷ codes "none" ∷ [])
 report_text (lines.Property name value) =
     line (codes "property" ∷ name ∷ value ∷ [])
 report_text (lines.Show group version entries mark time) =

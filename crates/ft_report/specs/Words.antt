@@ -5,7 +5,7 @@ use Rattle.std.specs.List.{flat_map}
 use Rattle.hex.specs.Hex.{encode_lower}
 use Rattle.ft_base.specs.declared.numbers.HostNo.{HostNo}
 use Rattle.ft_report.specs.declared.words.Word.{Word}
-use Rattle.ft_report.specs.declared.words.Word.TheVariants.{Fixed, Text, Made, Number, Signed, Host}
+use Rattle.ft_report.specs.declared.words.Word.TheVariants.{Fixed, Text, Made, Number, Signed, Host, Location}
 
 -- texts, with a byte between each two
 abbrev pub joined_text : ℕ → List (List ℕ) → List ℕ
@@ -33,6 +33,10 @@ abbrev pub host_text : Option HostNo → List ℕ
 host_text None = codes "-"
 host_text (Some host) = decimal host.0
 
+-- where a host's objects are: `h`, and its number directly behind it
+abbrev pub location_text : HostNo → List ℕ
+location_text host = codes "h" ++ decimal host.0
+
 -- a word's text
 abbrev pub word_text : Word → List ℕ
 word_text (Fixed text) = text.now
@@ -41,3 +45,4 @@ word_text (Made text) = text.now
 word_text (Number number) = decimal number
 word_text (Signed number) = signed_decimal number
 word_text (Host host) = host_text host
+word_text (Location host) = location_text host

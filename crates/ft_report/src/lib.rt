@@ -10,10 +10,12 @@ mod words;
 
 pub use outcomes::{ReportOutcome, Worth, worth_of};
 pub use rendering::write_line;
-pub use reports::{CallEnd, ReportLine, ReportLines, Role, SettingFault, Standing};
+pub use reports::{CallEnd, ReportLine, ReportLines, Role, SettingFault, Standing, SubscribeFault};
 
 #[cfg(test)]
 mod clients_tests;
+#[cfg(test)]
+mod monitors_tests;
 #[cfg(test)]
 mod settings_tests;
 #[cfg(test)]

@@ -1,10 +1,10 @@
 //! The parts of a line: words and phrases, each as its text.
 ghost use Rattle.std.specs.Prelude.{◌≡◌, ◌++◌, ◌∷◌, [], IfOk, OnOk};
 ghost use Rattle.ft_report.specs.Words.{octets_text, phrase_text};
-ghost use Rattle.ft_report.specs.Report.{completed_text, decision_text, end_text, fault_text, flag_text, ignored_text, kind_text, outcome_text, own_fault, refusal_text, role_text, setting_text, standing_text, why_text, with_number, with_numbers, with_version, worded_numbers, worth_text};
+ghost use Rattle.ft_report.specs.Report.{completed_text, decision_text, end_text, fault_text, flag_text, ignored_text, kind_text, outcome_text, own_fault, refusal_text, role_text, setting_text, standing_text, subscribe_text, why_text, with_number, with_numbers, with_version, worded_numbers, worth_text};
 
 use crate::outcomes::{ReportOutcome, Worth};
-use crate::reports::{CallEnd, Role, SettingFault, Standing};
+use crate::reports::{CallEnd, Role, SettingFault, Standing, SubscribeFault};
 use crate::words::Word::{Fixed, Made, Number, Signed, Text};
 use crate::words::{octets, phrase, push_phrase};
 use ft_base::{Bytes, Decision, HostNo, Ignored, Name, NoMemory, Version};
@@ -395,6 +395,16 @@ pub fn push_setting(text: &mut Vec<u8>, fault: SettingFault) -> Result<(), NoMem
                 u64::from(minimum),
             )
         }
+    }
+}
+
+/// Writes why a subscriber was refused.
+pub fn push_subscribe(text: &mut Vec<u8>, fault: SubscribeFault) -> Result<(), NoMemory>
+    ensures { OnOk result (text.new.items ≡ text.old.items ++ subscribe_text fault) }
+{
+    match fault {
+        SubscribeFault::BadFilter(place) => push_number(text, b"BadFilter", u64::from(place)),
+        SubscribeFault::Full(count) => push_number(text, b"Full", u64::from(count)),
     }
 }
 

@@ -5,13 +5,13 @@ ghost use Rattle.ft_report.specs.Report.{between_hosts, report_text};
 
 use crate::outcomes::ReportOutcome;
 use crate::parts::{
-    ignored_bytes, push_decision, push_end, push_outcome, push_setting, refusal_bytes, role_bytes,
-    standing_bytes, why_bytes, with_version,
+    ignored_bytes, push_decision, push_end, push_outcome, push_setting, push_subscribe,
+    refusal_bytes, role_bytes, standing_bytes, why_bytes, with_version,
 };
-use crate::reports::{CallEnd, ReportLine, Role, SettingFault, Standing};
-use crate::words::Word::{Fixed, Host, Made, Number, Text};
+use crate::reports::{CallEnd, ReportLine, Role, SettingFault, Standing, SubscribeFault};
+use crate::words::Word::{Fixed, Host, Location, Made, Number, Text};
 use crate::words::{Word, hosts, octets, phrase, push_line, push_phrase};
-use ft_base::{Bytes, Decision, HostNo, Ignored, Members, Name, NoMemory, Tick, Version};
+use ft_base::{Bytes, Decision, GroupId, HostNo, Ignored, Members, Name, NoMemory, Tick, Version};
 use giop_messages::Why;
 use group_model::ManageFault;
 use std::alloc::Global;
@@ -279,6 +279,32 @@ fn order_line(
     )
 }
 
+// A message of the monitor to a host, or of a host to the monitor: the words that stand before and
+// behind the host's number, and the group that it is about.
+fn monitor_line<'a>(
+    text: &mut Vec<u8>,
+    alloc: Global,
+    message: u64,
+    before: &'static [u8],
+    host: HostNo,
+    behind: &'static [u8],
+    group: &'a Name,
+) -> Result<(), NoMemory>
+    ensures { OnOk result (text.new.items ≡ text.old.items ++ line (codes "msg" ∷ decimal message ∷ before.now ∷ decimal host.0 ∷ behind.now ∷ group.now ∷ [])) }
+{
+    push_line(
+        text,
+        &[
+            Fixed(b"msg"),
+            Number(message),
+            Fixed(before),
+            Number(u64::from(host.0)),
+            Fixed(behind),
+            Text(group.bytes()),
+        ],
+    )
+}
+
 fn held_line(
     text: &mut Vec<u8>,
     alloc: Global,
@@ -389,6 +415,36 @@ fn refused_setting_line(text: &mut Vec<u8>, fault: SettingFault) -> Result<(), N
     push_front(text, &[Fixed(b"refused")])?;
     push_setting(text, fault)?;
     end_line(text)
+}
+
+fn refused_subscriber_line(text: &mut Vec<u8>, fault: SubscribeFault) -> Result<(), NoMemory>
+    ensures { OnOk result (text.new.items ≡ text.old.items ++ report_text (ReportLine.RefusedSubscriber fault)) }
+{
+    push_front(text, &[Fixed(b"refused")])?;
+    push_subscribe(text, fault)?;
+    end_line(text)
+}
+
+fn fault_line<'a>(
+    text: &mut Vec<u8>,
+    alloc: Global,
+    subscriber: &'a Name,
+    host: HostNo,
+    id: GroupId,
+    group: &'a Name,
+) -> Result<(), NoMemory>
+    ensures { OnOk result (text.new.items ≡ text.old.items ++ report_text (ReportLine.Fault subscriber.now host id group.now)) }
+{
+    push_line(
+        text,
+        &[
+            Fixed(b"fault"),
+            Text(subscriber.bytes()),
+            Location(host),
+            Number(id.0),
+            Text(group.bytes()),
+        ],
+    )
 }
 
 fn property_line<'a>(
@@ -608,6 +664,32 @@ pub fn write_line(text: &mut Vec<u8>, alloc: Global, line: &ReportLine) -> Resul
             let way = between_hosts(alloc, *message, *from, *to)?;
             order_line(text, alloc, &way, group, *index)
         }
+        ReportLine::Ping {
+            message,
+            host,
+            group,
+        } => monitor_line(
+            text,
+            alloc,
+            *message,
+            b"monitor to host",
+            *host,
+            b"ping",
+            group,
+        ),
+        ReportLine::Pong {
+            message,
+            host,
+            group,
+        } => monitor_line(
+            text,
+            alloc,
+            *message,
+            b"host",
+            *host,
+            b"to monitor pong",
+            group,
+        ),
         ReportLine::Applied { message, position } => push_line(
             text,
             &[
@@ -627,6 +709,14 @@ pub fn write_line(text: &mut Vec<u8>, alloc: Global, line: &ReportLine) -> Resul
             group,
             version,
         } => known_line(text, alloc, *host, group, *version),
+        ReportLine::Alive { group, host } => push_line(
+            text,
+            &[
+                Fixed(b"alive"),
+                Text(group.bytes()),
+                Number(u64::from(host.0)),
+            ],
+        ),
         ReportLine::Lost { message } => push_line(text, &[Fixed(b"lost"), Number(*message)]),
         ReportLine::UnheardReply { message } => {
             push_line(
@@ -637,6 +727,10 @@ pub fn write_line(text: &mut Vec<u8>, alloc: Global, line: &ReportLine) -> Resul
         ReportLine::IgnoredDeleted { message } => push_line(
             text,
             &[Fixed(b"ignored"), Number(*message), Fixed(b"deleted")],
+        ),
+        ReportLine::IgnoredUnwatched { message } => push_line(
+            text,
+            &[Fixed(b"ignored"), Number(*message), Fixed(b"unwatched")],
         ),
         ReportLine::Ignored { message, why } => ignored_line(text, alloc, *message, *why),
         ReportLine::Adopted {
@@ -658,6 +752,31 @@ pub fn write_line(text: &mut Vec<u8>, alloc: Global, line: &ReportLine) -> Resul
         ReportLine::Up { host } => push_line(text, &[Fixed(b"up"), Number(u64::from(host.0))]),
         ReportLine::Refused(fault) => refused_line(text, alloc, *fault),
         ReportLine::RefusedSetting(fault) => refused_setting_line(text, *fault),
+        ReportLine::RefusedSubscriber(fault) => refused_subscriber_line(text, *fault),
+        ReportLine::PollNone { group } => push_line(
+            text,
+            &[Fixed(b"poll"), Text(group.bytes()), Fixed(b"none")],
+        ),
+        ReportLine::SweepNone { group } => push_line(
+            text,
+            &[Fixed(b"sweep"), Text(group.bytes()), Fixed(b"none")],
+        ),
+        ReportLine::Subscribed { subscriber } => {
+            push_line(text, &[Fixed(b"subscribed"), Text(subscriber.bytes())])
+        }
+        ReportLine::Unsubscribed { subscriber } => {
+            push_line(text, &[Fixed(b"unsubscribed"), Text(subscriber.bytes())])
+        }
+        ReportLine::Fault {
+            subscriber,
+            host,
+            id,
+            group,
+        } => fault_line(text, alloc, subscriber, *host, *id, group),
+        ReportLine::NoFault { subscriber } => push_line(
+            text,
+            &[Fixed(b"fault"), Text(subscriber.bytes()), Fixed(b"none")],
+        ),
         ReportLine::Property { name, value } => property_line(text, alloc, name, value),
         ReportLine::Show {
             group,

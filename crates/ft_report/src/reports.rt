@@ -56,6 +56,15 @@ pub enum SettingFault {
     CannotMeetCriteria { initial: u16, minimum: u16 },
 }
 
+/// Why a subscriber is refused. It is none then.
+#[derive(Clone, Copy, Debug, PartialEq, Eq)]
+pub enum SubscribeFault {
+    /// The term at this place of its filter, counted from 0, is none.
+    BadFilter(u32),
+    /// So many subscribers are connected, and that is as many as there can be.
+    Full(u32),
+}
+
 /// How a client's invocation ended.
 #[derive(Debug, Drop)]
 pub enum CallEnd {
@@ -141,6 +150,18 @@ pub enum ReportLine {
         group: Name,
         index: u32,
     },
+    /// The monitor asks a group's member whether it is alive, as a message.
+    Ping {
+        message: u64,
+        host: HostNo,
+        group: Name,
+    },
+    /// A host answers the monitor that its member of the group is alive, as a message.
+    Pong {
+        message: u64,
+        host: HostNo,
+        group: Name,
+    },
     /// What one member sent took another on, to this position.
     Applied {
         message: u64,
@@ -158,6 +179,11 @@ pub enum ReportLine {
         group: Name,
         version: Version,
     },
+    /// The monitor heard that the group's member on this host is alive.
+    Alive {
+        group: Name,
+        host: HostNo,
+    },
     /// A message came to a host that is down.
     Lost {
         message: u64,
@@ -168,6 +194,10 @@ pub enum ReportLine {
     },
     /// A message came for a group that was deleted.
     IgnoredDeleted {
+        message: u64,
+    },
+    /// A member answered that the monitor doesn't watch.
+    IgnoredUnwatched {
         message: u64,
     },
     /// A host ignored what was sent to it.
@@ -213,6 +243,36 @@ pub enum ReportLine {
     Refused(ManageFault),
     /// Properties, or the criteria of a group that is to be made, were refused.
     RefusedSetting(SettingFault),
+    /// A subscriber was refused.
+    RefusedSubscriber(SubscribeFault),
+    /// No member of the group is to be asked now whether it is alive.
+    PollNone {
+        group: Name,
+    },
+    /// No member of the group has left the monitor without an answer for too long.
+    SweepNone {
+        group: Name,
+    },
+    /// A subscriber is told of fault events from now on.
+    Subscribed {
+        subscriber: Name,
+    },
+    /// A subscriber is told of fault events no more.
+    Unsubscribed {
+        subscriber: Name,
+    },
+    /// The oldest fault event that waited for a subscriber: the member on this host, of the group
+    /// with this number, crashed.
+    Fault {
+        subscriber: Name,
+        host: HostNo,
+        id: GroupId,
+        group: Name,
+    },
+    /// No fault event waits for the subscriber.
+    NoFault {
+        subscriber: Name,
+    },
     /// A property's value.
     Property {
         name: Name,

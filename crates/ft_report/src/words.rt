@@ -23,6 +23,8 @@ pub enum Word<'a, 'b> {
     Signed(i64),
     /// A host's number; `-` for none.
     Host(Option<HostNo>),
+    /// Where a host's objects are: `h` and the host's number.
+    Location(HostNo),
 }
 
 fn push_digits(text: &mut Vec<u8>, number: u64) -> Result<(), NoMemory>
@@ -47,6 +49,10 @@ fn push_word(text: &mut Vec<u8>, word: &Word) -> Result<(), NoMemory>
         }
         Word::Host(None) => text.extend_from_slice(b"-")?,
         Word::Host(Some(host)) => push_digits(text, u64::from(host.0))?,
+        Word::Location(host) => {
+            text.push(b'h')?;
+            push_digits(text, u64::from(host.0))?;
+        }
     }
     Ok(())
 }

@@ -14,7 +14,8 @@ use Rattle.script_world.specs.World.{World, empty}
 use Rattle.ft_world.specs.Acts.{act}
 use Rattle.ft_world.specs.Laws.{AllLater, DeposedDoNothing, DeposedDoesNothing, HasMore, KeepsEntries, ScriptsAcceptOnce, ScriptsKeepEntries, ServantsAreCalled, calls_from, calls_of_groups, or_no_more, or_stay, world_after}
 use Rattle.world_turns.specs.Turns.{Turn, Goes, Refused}
-use Rattle.ft_world.proofs.KeptLemmas.{GoesOn, act_on, all_next, all_stay}
+use Rattle.ft_world.proofs.KeptLemmas.{GoesOn, act_on}
+use Rattle.ft_world.proofs.LaterLemmas.{all_next, all_stay}
 
 -- ---- what holds of every group
 

@@ -1,15 +1,15 @@
 -- What every line leaves of a world: each group, which may have had more events, and the servant calls of these;
 -- the clock goes on by less than 2^32, and each client begins one invocation at most.
-use Rattle.std.proofs.Common.{◌≡◌, ℕ, zero, suc, ◌+◌, ◌<◌, ◌≤◌, ◌^◌, arith, Bool, true, false, List, [], ◌∷◌, ◌++◌, length, Option, Some, None, Result, Ok, Err, refl, sym, ap, subst, ◌∙◌}
-use Rattle.std.specs.Prelude.{◌-◌, if◌then◌else◌, slice_get, slice_set}
+use Rattle.std.proofs.Common.{◌≡◌, ℕ, suc, ◌+◌, ◌<◌, ◌≤◌, ◌^◌, arith, Bool, true, false, List, [], ◌∷◌, ◌++◌, length, Option, Some, None, Result, Ok, Err, refl, sym, ap, subst, ◌∙◌}
+use Rattle.std.specs.Prelude.{◌-◌, if◌then◌else◌, slice_get}
 use Rattle.std.specs.List.{AllByRecursion}
-use Rattle.std.proofs.lemmas.List.Sums.{sum_by-cons}
 use Rattle.ft_base.specs.declared.decisions.Stop.{Stop}
 use Rattle.ft_base.specs.declared.numbers.GroupId.{GroupId}
 use Rattle.ft_base.specs.declared.numbers.HostNo.{HostNo}
 use Rattle.ft_base.specs.declared.requests.Par.{Par}
 use Rattle.ft_base.specs.declared.views.Style.{Style}
 use Rattle.client_retry.specs.Clients as retries
+use Rattle.fault_notifier.specs.declared.events.FaultEvent.{FaultEvent}
 use Rattle.fault_script.specs.Arguments.{call_words_of}
 use Rattle.fault_script.specs.declared.arguments.CallWords.{CallWords}
 use Rattle.fault_script.specs.declared.lines.KindWord.{KindWord}
@@ -26,6 +26,7 @@ use Rattle.generic_factory.specs.declared.faults.CreateFault.{CreateFault}
 use Rattle.giop_stream.specs.Sessions.{session}
 use Rattle.group_model.specs.declared.asking.Asked.{Asked}
 use Rattle.group_model.specs.declared.changes.Change.{Change}
+use Rattle.group_model.specs.declared.changes.Change.TheVariants as changes
 use Rattle.group_model.specs.declared.events.Event.{Event}
 use Rattle.group_model.specs.declared.events.Event.TheVariants as events
 use Rattle.group_model.specs.declared.events.GroupAnswer.{GroupAnswer}
@@ -49,7 +50,7 @@ use Rattle.script_clients.specs.declared.answers.Told.{Told}
 use Rattle.script_clients.specs.declared.answers.Told.TheVariants as tolds
 use Rattle.script_clients.specs.Clients.{Client, Turn as Turned, binding, failing, going_on, hearing, new_client, taking}
 use Rattle.script_groups.specs.Acting.{IsKept}
-use Rattle.script_groups.specs.Groups.{ScriptGroup, Placed, acted, all_acted, servant_calls, with_more, group_named, machine_of, opened, signature_of, turn}
+use Rattle.script_groups.specs.Groups.{ScriptGroup, Placed, acted, all_acted, servant_calls, group_named, machine_of, opened, signature_of, turn}
 use Rattle.shipped_servants.specs.declared.kinds.Kind.{Kind}
 use Rattle.sys_faults.specs.declared.answers.Answer.TheVariants.{System as SystemAnswer}
 use Rattle.script_world.specs.declared.hosts.HostState.{HostState}
@@ -57,15 +58,15 @@ use Rattle.script_world.specs.declared.messages.Message.{Message}
 use Rattle.script_world.specs.declared.messages.Message.TheVariants as messages
 use Rattle.script_world.specs.declared.messages.Reply.{Reply as AReply}
 use Rattle.script_world.specs.Sound.{HasActed, IsKeptWorld}
-use Rattle.script_world.specs.World.{World, client_named, is_up, message_numbered, passed, with_client, with_event, with_hosts, with_messages, with_one_client, with_settings, without_group}
+use Rattle.script_world.specs.World.{World, client_named, is_up, message_numbered, passed, with_client, with_event, with_fault, with_hosts, with_messages, with_one_client, with_settings, with_subscribers, without_group}
 use Rattle.script_world.specs.Worlds.{begin}
-use Rattle.ft_world.proofs.PlaceLemmas.{IsOf, IsOneNamed, IsOneOf, all_get, all_push, all_set, called_one, found_one, got, same_some, there_one, with_number_one}
+use Rattle.ft_world.proofs.PlaceLemmas.{IsOf, IsOneNamed, IsOneOf, all_get, all_push, all_set, called_one, found_one, got, there_one, with_number_one}
 use Rattle.ft_world.specs.Acts.{act, act_first}
 use Rattle.ft_world.specs.Clients.{attempted, begun, call_by, call_from, call_said, call_to, does, gone_for, gone_said, started, started_by}
-use Rattle.ft_world.specs.Delivering.{answered, arrives, asker_of, brought_to, delivered, heard_by, heard_of, reply_to, requested, request_event, turned_away}
+use Rattle.ft_world.specs.Delivering.{answered, arrives, asker_of, brought_to, delivered, heard_by, heard_of, replied, request_event, requested, turned_away}
 use Rattle.ft_world.specs.declared.deliveries.Asker.{Asker}
 use Rattle.world_management.specs.Creating.{create_causes, create_line, created, created_unless, creation, delete_found, grow_to, in_full, style_in}
-use Rattle.world_management.specs.Hosts.{change_of, change_to, changed, changes_members, crash_line, host_causes, on_host, restart_line, show_found, started_again, stopped}
+use Rattle.world_management.specs.Hosts.{change_of, change_to, changed, changes_members, crash_line, fault_of, host_causes, on_host, restart_line, show_found, started_again, stopped, with_reported}
 use Rattle.ft_world.specs.Laws.{AllLater, HasMore, calls_of_groups}
 use Rattle.script_groups.specs.Laws.{CallsGoOn, NoneCalledYet}
 use Rattle.ft_world.specs.Lines.{IsTimely}
@@ -77,95 +78,20 @@ use Rattle.ft_world.specs.Printed.{gives_of, shown}
 use Rattle.world_management.specs.Reading.{member_of, reads}
 use Rattle.script_groups.specs.References.{newest_reference}
 use Rattle.script_groups.specs.Reading.{identified, located, member_referred, referred}
+use Rattle.script_subscribers.specs.declared.answers.Pulled.{Pulled}
+use Rattle.script_subscribers.specs.declared.answers.Pulled.TheVariants as pulls
+use Rattle.script_subscribers.specs.Calls.{pulled_of}
+use Rattle.script_subscribers.specs.Subscribers.{Bad, Good, Judged, Listener, filter_in, full, pulled, subscribed, subscriber_named, unsubscribed}
+use Rattle.world_monitors.specs.Arriving.{ping_of, pinged, pong_of, ponged}
+use Rattle.world_monitors.specs.Monitoring.{due, overdue}
+use Rattle.world_monitors.specs.Polling.{asks, poll_of, polled, watched_members}
+use Rattle.world_monitors.specs.Subscribing.{pull_by, subscribe_line, subscriber_causes, subscribes, subscribes_by, unsubscribe_from}
+use Rattle.world_monitors.specs.Staying.{reports_stay}
+use Rattle.world_monitors.specs.Sweeping.{reported, reports_all, reports_one, sweep_of, sweeps, swept}
 use Rattle.world_turns.specs.Sending.{all_carried}
 use Rattle.world_turns.specs.Naming.{Naming, NeverMade, Deleted, There, gone, group_called, group_with_number}
 use Rattle.world_turns.specs.Turns.{Effect, Turn, Goes, Refused, first_cause, goes, judged, says, total_causes, totals_of, unless}
-
--- ---- clients
-
--- a client that has begun so few invocations
-abbrev Few : ℕ → Client → Type 0
-Few lines c = (c.started ≤ lines) × (c.numbered ≤ lines)
-
-abbrev AreFew : ℕ → List Client → Type 0
-AreFew lines cs = AllByRecursion (Few lines) cs
-
-more_few : (lines : ℕ) (cs : List Client) → AreFew lines cs → AreFew (lines + 1) cs
-more_few lines [] few = tt
-more_few lines (c ∷ cs) few = ((omega (arith, few.0.0), omega (arith, few.0.1)), more_few lines cs few.1)
-
--- ---- groups, each of which may have had more events, and others behind them
-
-events_on : (es fs gs : List Event) → (es ++ fs) ++ gs ≡ es ++ (fs ++ gs)
-events_on [] fs gs = refl
-events_on (e ∷ es) fs gs = ap (λ (rest : List Event). e ∷ rest) (events_on es fs gs)
-
-none_behind : (es : List Event) → es ≡ es ++ []
-none_behind [] = refl
-none_behind (e ∷ es) = ap (λ (rest : List Event). e ∷ rest) (none_behind es)
-
-no_more : (g : ScriptGroup) → HasMore g g
-no_more g = record { more = []; is = ap (λ (es : List Event). record g { events = es }) (none_behind g.events) }
-
-one_more_event : (g : ScriptGroup) (e : Event) → HasMore g (acted g e)
-one_more_event g e = record { more = e ∷ []; is = refl }
-
-more_on : (f g h : ScriptGroup) → HasMore f g → HasMore g h → HasMore f h
-more_on f g h a b = record {
-  more = a.more ++ b.more;
-  is = b.is ∙ ap (λ (x : ScriptGroup). with_more x b.more) a.is ∙ ap (λ (es : List Event). record f { events = es }) (events_on f.events a.more b.more);
-}
-
-pub all_stay : (gs : List ScriptGroup) → AllLater HasMore gs gs
-all_stay [] = tt
-all_stay (g ∷ gs) = (no_more g, all_stay gs)
-
-pub all_next : (fs gs hs : List ScriptGroup) → AllLater HasMore fs gs → AllLater HasMore gs hs → AllLater HasMore fs hs
-all_next [] gs hs a b = tt
-all_next (f ∷ fs) [] hs a b = absurd a
-all_next (f ∷ fs) (g ∷ gs) [] a b = absurd b
-all_next (f ∷ fs) (g ∷ gs) (h ∷ hs) a b = (more_on f g h a.0 b.0, all_next fs gs hs a.1 b.1)
-
-one_later : (gs : List ScriptGroup) (i : ℕ) (g : ScriptGroup) (e : Event) → slice_get gs i ≡ Some g → AllLater HasMore gs (slice_set gs i (acted g e))
-one_later [] i g e at = tt
-one_later (x ∷ gs) zero g e at = (subst (λ (y : ScriptGroup). HasMore y (acted g e)) (sym (same_some x g at)) (one_more_event g e), all_stay gs)
-one_later (x ∷ gs) (suc i) g e at = (no_more x, one_later gs i g e at)
-
-each_later : (e : Event) (gs : List ScriptGroup) → AllLater HasMore gs (all_acted e gs)
-each_later e [] = tt
-each_later e (g ∷ gs) = (one_more_event g e, each_later e gs)
-
-one_behind : (gs : List ScriptGroup) (g : ScriptGroup) → AllLater HasMore gs (gs ++ g ∷ [])
-one_behind [] g = tt
-one_behind (x ∷ gs) g = (no_more x, one_behind gs g)
-
--- ---- their servant calls
-
-module _ (calls_go_on : CallsGoOn) where
-  one_called : (gs : List ScriptGroup) (i : ℕ) (g : ScriptGroup) (e : Event) → slice_get gs i ≡ Some g →
-      calls_of_groups (slice_set gs i (acted g e)) ≡ calls_of_groups gs + (turn g e).calls
-  one_called [] i g e at = absurd cc
-  one_called (x ∷ gs) zero g e at =
-      let here = calls_go_on g e in
-      let same = ap servant_calls (same_some x g at) in
-      omega (arith, here, same, sum_by-cons servant_calls (acted g e) gs, sum_by-cons servant_calls x gs)
-  one_called (x ∷ gs) (suc i) g e at =
-      let there = one_called gs i g e at in
-      omega (arith, there, sum_by-cons servant_calls x gs, sum_by-cons servant_calls x (slice_set gs i (acted g e)))
-
-  -- an event at every group that calls no servant
-  none_called : (e : Event) → ((g : ScriptGroup) → (turn g e).calls ≡ 0) → (gs : List ScriptGroup) → calls_of_groups (all_acted e gs) ≡ calls_of_groups gs
-  none_called e none [] = refl
-  none_called e none (g ∷ gs) =
-      let here = calls_go_on g e in
-      let there = none_called e none gs in
-      omega (arith, here, none g, there, sum_by-cons servant_calls (acted g e) (all_acted e gs), sum_by-cons servant_calls g gs)
-
-one_behind_called : (gs : List ScriptGroup) (g : ScriptGroup) → calls_of_groups (gs ++ g ∷ []) ≡ calls_of_groups gs + servant_calls g
-one_behind_called [] g = omega (arith, sum_by-cons servant_calls g [])
-one_behind_called (x ∷ gs) g =
-    let there = one_behind_called gs g in
-    omega (arith, there, sum_by-cons servant_calls x gs, sum_by-cons servant_calls x (gs ++ g ∷ []))
+use Rattle.ft_world.proofs.LaterLemmas.{Few, AreFew, more_few, all_stay, all_next, one_later, each_later, one_behind, one_called, none_called, one_behind_called}
 
 -- ---- two worlds, the second behind the first by so many servant calls
 
@@ -301,11 +227,15 @@ module _ (T : Type 0) where
   judged_on w (Goes new report calls) on = refused_or w (first_cause (total_causes (totals_of new))) calls (Goes new report calls) on
   judged_on w (Refused why calls) on = tt
 
+  if_keeps : (w : World) (b : Bool) (e f : Effect) → Makes w e → Makes w f → Makes w (if b then e else f)
+  if_keeps w true e f a b = a
+  if_keeps w false e f a b = b
+
   -- ---- what a client does
 
   attempt_keeps : (w : World) (client : ℕ) (name : List ℕ) (a : Attempt) (o : Option HostNo) → Makes w (attempted w client name a o)
   attempt_keeps w client name a None = same w
-  attempt_keeps w client name a (Some host) = more_sent w (messages.Request client host a ∷ [])
+  attempt_keeps w client name a (Some host) = untouched w (attempted w client name a (Some host)).world refl refl (λ lines f. f)
 
   does_keeps : (w : World) (client : ℕ) (name : List ℕ) (gives : Option Par) (idle : List ReportLine) (told : Told) →
       Makes w (does w client name gives idle told)
@@ -405,14 +335,9 @@ module _ (T : Type 0) where
   answered_keeps w k a answers.NoMemory = same w
 
   turned_away_keeps : (w : World) (k : ℕ) (a : Asker) → Makes w (turned_away w k a)
-  turned_away_keeps w k a = go (is_up w a.host.0)
-    where
-      reply : List Message
-      reply = messages.Reply (reply_to a (SystemAnswer no_group)) ∷ []
-
-      go : (up : Bool) → Makes w (if up then says (with_messages w reply) (reports.NoGroup a.host ∷ reports.Reply (length w.messages + 1) a.host a.client_name a.id (shown a.group_name a.gives (SystemAnswer no_group)) ∷ []) else says w (reports.Lost k ∷ []))
-      go true = more_sent w reply
-      go false = same w
+  turned_away_keeps w k a =
+      let new : World = replied w a (SystemAnswer no_group) in
+      if_keeps w (is_up w a.host.0) (says new _) (says w _) (untouched w new refl refl (λ lines f. f)) (same w)
 
   requested_keeps : (w : World) (k client : ℕ) (host : HostNo) (a : Attempt) (stop : Stop) (n : Naming) (c : Option Client) →
       IsOneNamed w.groups n → Makes w (requested w k client host a stop n c)
@@ -443,11 +368,29 @@ module _ (T : Type 0) where
   brought_keeps w k out (Deleted p) is = same w
   brought_keeps w k out (There p) is = as_many w (with_event w p.place p.value (brought out)) _ _ (omega arith) (group_acts w p (brought out) is)
 
+  pinged_keeps : (w : World) (k : ℕ) (g : ScriptGroup) (host : HostNo) → Makes w (pinged w k g host)
+  pinged_keeps w k g host = if_keeps w (is_up w host.0) (says (with_messages w pong) _) (says w _) (more_sent w pong) (same w)
+    where
+      pong : List Message
+      pong = messages.Pong g.id host ∷ []
+
+  ping_keeps : (w : World) (k : ℕ) (host : HostNo) (n : Naming) → Makes w (ping_of w k host n)
+  ping_keeps w k host NeverMade = same w
+  ping_keeps w k host (Deleted p) = same w
+  ping_keeps w k host (There p) = pinged_keeps w k p.value host
+
+  pong_keeps : (w : World) (k : ℕ) (host : HostNo) (n : Naming) → Makes w (pong_of w k host n)
+  pong_keeps w k host NeverMade = same w
+  pong_keeps w k host (Deleted p) = same w
+  pong_keeps w k host (There p) = untouched w (ponged w k p.value host).world refl refl (λ lines f. f)
+
   arrives_keeps : (w : World) (k : ℕ) (stop : Stop) (m : Message) → Makes w (arrives w k stop m)
   arrives_keeps w k stop (messages.Request client host a) =
       requested_keeps w k client host a stop (group_with_number w a.group.0) (slice_get w.clients client) (with_number_one w a.group.0)
   arrives_keeps w k stop (messages.Reply r) = heard_keeps w k r (slice_get w.clients r.client) (got w.clients r.client)
   arrives_keeps w k stop (messages.Carried group out) = brought_keeps w k out (group_with_number w group.0) (with_number_one w group.0)
+  arrives_keeps w k stop (messages.Ping group host) = ping_keeps w k host (group_with_number w group.0)
+  arrives_keeps w k stop (messages.Pong group host) = pong_keeps w k host (group_with_number w group.0)
 
   deliver_on : (w : World) (k : ℕ) (stop : Stop) (o : Option Message) → GoesOn w (delivered w k stop o)
   deliver_on w k stop None = tt
@@ -519,10 +462,6 @@ module _ (T : Type 0) where
       let more = all.more in
       as_many w (link_of w host bytes).world all.calls (link_of w host bytes).calls (omega (arith, more)) all.keeps
 
-  if_keeps : (w : World) (b : Bool) (e f : Effect) → Makes w e → Makes w f → Makes w (if b then e else f)
-  if_keeps w true e f a b = a
-  if_keeps w false e f a b = b
-
   inject_on : (w : World) (host : ℕ) (bytes : List ℕ) → GoesOn w (inject_line w host bytes)
   inject_on w host bytes =
       let e : Effect = if is_up w host then link_of w host bytes else says w (reports.LinkLost ∷ []) in
@@ -531,26 +470,39 @@ module _ (T : Type 0) where
 
   -- ---- members and hosts
 
-  changed_keeps : (w : World) (host : HostNo) (g : ScriptGroup) (answer : GroupAnswer) → Makes w (changed w host g answer)
-  changed_keeps w host g (answers.Changed view out) = more_sent w (all_carried g.id out)
-  changed_keeps w host g (answers.Refused why) = same w
-  changed_keeps w host g (answers.Reply decision answer out) = same w
-  changed_keeps w host g (answers.Known version) = same w
-  changed_keeps w host g (answers.Applied position) = same w
-  changed_keeps w host g (answers.Held position) = same w
-  changed_keeps w host g (answers.Ignored why) = same w
-  changed_keeps w host g (answers.Taken from position out) = same w
-  changed_keeps w host g answers.LogFault = same w
-  changed_keeps w host g answers.Down = same w
-  changed_keeps w host g answers.Up = same w
-  changed_keeps w host g answers.NoMemory = same w
+  -- who is told of a fault
+  fault_keeps : (w : World) (event : FaultEvent) → Keeps w (with_fault w event) 0
+  fault_keeps w event = untouched w (with_fault w event) refl refl (λ lines f. f)
+
+  reported_keeps : (w : World) (kind : Kind) (group : GroupId) (change : Change) → Keeps w (with_reported w kind group change) 0
+  reported_keeps w kind group (changes.Report host) = fault_keeps w (fault_of kind group host)
+  reported_keeps w kind group (changes.Remove host) = same w
+  reported_keeps w kind group (changes.Add host) = same w
+  reported_keeps w kind group (changes.Create host listed made) = same w
+  reported_keeps w kind group (changes.Primary host) = same w
+
+  changed_keeps : (w : World) (host : HostNo) (g : ScriptGroup) (change : Change) (answer : GroupAnswer) → Makes w (changed w host g change answer)
+  changed_keeps w host g change (answers.Changed view out) =
+      let sent : World = with_messages w (all_carried g.id out) in
+      behind w sent (with_reported sent g.kind g.id change) 0 0 (more_sent w (all_carried g.id out)) (reported_keeps sent g.kind g.id change)
+  changed_keeps w host g change (answers.Refused why) = same w
+  changed_keeps w host g change (answers.Reply decision answer out) = same w
+  changed_keeps w host g change (answers.Known version) = same w
+  changed_keeps w host g change (answers.Applied position) = same w
+  changed_keeps w host g change (answers.Held position) = same w
+  changed_keeps w host g change (answers.Ignored why) = same w
+  changed_keeps w host g change (answers.Taken from position out) = same w
+  changed_keeps w host g change answers.LogFault = same w
+  changed_keeps w host g change answers.Down = same w
+  changed_keeps w host g change answers.Up = same w
+  changed_keeps w host g change answers.NoMemory = same w
 
   changes_keep : (w : World) (p : Placed ScriptGroup) (change : Change) (host : HostNo) → IsOneOf w.groups (Some p) → Makes w (changes_members w p change host)
   changes_keep w p change host is =
       let e : Event = events.Manage change in
       let v : World = with_event w p.place p.value e in
-      let made : Effect = changed v host p.value (turn p.value e).answer in
-      behind w v made.world (turn p.value e).calls made.calls (group_acts w p e is) (changed_keeps v host p.value (turn p.value e).answer)
+      let made : Effect = changed v host p.value change (turn p.value e).answer in
+      behind w v made.world (turn p.value e).calls made.calls (group_acts w p e is) (changed_keeps v host p.value change (turn p.value e).answer)
 
   -- a line about a host, where that is there
   on_host_on : (w : World) (host : ℕ) (e : Effect) → Makes w e → GoesOn w (on_host w host e)
@@ -567,6 +519,64 @@ module _ (T : Type 0) where
   grow_on w (Deleted p) host is = on_host_on w host (gone w) (same w)
   grow_on w (There p) host is =
       on_host_on w host (changes_members w p (creation w p.value host) (host_no host)) (changes_keep w p (creation w p.value host) (host_no host) is)
+
+  -- ---- the monitor, and those who subscribe
+
+  asks_keep : (w : World) (g : ScriptGroup) (hosts : List ℕ) → Makes w (asks w g hosts)
+  asks_keep w g [] = same w
+  asks_keep w g (host ∷ hosts) = untouched w (asks w g (host ∷ hosts)).world refl refl (λ lines f. f)
+
+  poll_on : (w : World) (n : Naming) → GoesOn w (poll_of w n)
+  poll_on w NeverMade = tt
+  poll_on w (Deleted p) = begins_none w w 0 (same w)
+  poll_on w (There p) =
+      let v : World = watched_members w p.value in
+      let e : Effect = polled w p.value in
+      begins_none w e.world e.calls
+      (as_many w e.world (0 + e.calls) e.calls (omega arith)
+      (behind w v e.world 0 e.calls (untouched w v refl refl (λ lines f. f)) (asks_keep v p.value (due v p.value))))
+
+  reports_keep : (w : World) (p : Placed ScriptGroup) (hosts : List ℕ) → IsOneOf w.groups (Some p) → Makes w (reports_all w p hosts)
+  unfolding reports_all
+  reports_keep w p [] is = same w
+  reports_keep w p (host ∷ hosts) is =
+      let e : Effect = reports_one w p host in
+      let f : Effect = reports_all e.world (reported p host) hosts in
+      behind w e.world f.world e.calls f.calls (changes_keep w p (changes.Report (host_no host)) (host_no host) is)
+      (reports_keep e.world (reported p host) hosts (reports_stay w p host is))
+
+  sweeps_keep : (w : World) (p : Placed ScriptGroup) (hosts : List ℕ) → IsOneOf w.groups (Some p) → Makes w (sweeps w p hosts)
+  sweeps_keep w p [] is = same w
+  sweeps_keep w p (host ∷ hosts) is = reports_keep w p (host ∷ hosts) is
+
+  sweep_on : (w : World) (n : Naming) → IsOneNamed w.groups n → GoesOn w (sweep_of w n)
+  sweep_on w NeverMade is = tt
+  sweep_on w (Deleted p) is = begins_none w w 0 (same w)
+  sweep_on w (There p) is = begins_none w (swept w p).world (swept w p).calls (sweeps_keep w p (overdue w p.value) is)
+
+  subscribed_keeps : (w : World) (name : List ℕ) (j : Judged) (room : Option ℕ) → Makes w (subscribes_by w name j room)
+  subscribed_keeps w name (Bad place) room = same w
+  subscribed_keeps w name (Good f) (Some count) = same w
+  subscribed_keeps w name (Good f) None = untouched w (with_subscribers w (subscribed w.subscribers name f)) refl refl (λ lines l. l)
+
+  subscribe_on : (w : World) (name filter : List ℕ) → GoesOn w (subscribe_line w name filter)
+  subscribe_on w name filter =
+      let e : Effect = subscribes w name filter in
+      refused_or w (first_cause (subscriber_causes w name)) 0 (goes e)
+      (begins_none w e.world e.calls (subscribed_keeps w name (filter_in filter) (full w.subscribers)))
+
+  unsubscribe_on : (w : World) (name : List ℕ) (o : Option Listener) → GoesOn w (unsubscribe_from w name o)
+  unsubscribe_on w name None = tt
+  unsubscribe_on w name (Some l) =
+      let new : World = with_subscribers w (unsubscribed w.subscribers name) in
+      begins_none w new 0 (untouched w new refl refl (λ lines f. f))
+
+  pull_on : (w : World) (name : List ℕ) (told : Pulled) → GoesOn w (pull_by w name told)
+  pull_on w name pulls.Unknown = tt
+  pull_on w name pulls.Nothing = begins_none w w 0 (same w)
+  pull_on w name (pulls.Event event) =
+      let new : World = with_subscribers w (pulled w.subscribers name) in
+      begins_none w new 0 (untouched w new refl refl (λ lines f. f))
 
   -- one of two worlds
   either_keeps : (w : World) (b : Bool) (u v : World) → Keeps w u 0 → Keeps w v 0 → Keeps w (if b then u else v) 0
@@ -736,6 +746,11 @@ module _ (T : Type 0) where
   first_on w (lines.Grow group host) timely = grow_on w (group_called w group) host (called_one w group)
   first_on w (lines.Crash host) timely = crash_on w host
   first_on w (lines.Restart host) timely = restart_on w host
+  first_on w (lines.Poll name) timely = poll_on w (group_called w name)
+  first_on w (lines.Sweep name) timely = sweep_on w (group_called w name) (called_one w name)
+  first_on w (lines.Subscribe subscriber filter) timely = subscribe_on w subscriber filter
+  first_on w (lines.Unsubscribe subscriber) timely = unsubscribe_on w subscriber (subscriber_named w.subscribers subscriber)
+  first_on w (lines.Pull subscriber) timely = pull_on w subscriber (pulled_of (subscriber_named w.subscribers subscriber))
 
   pub act_on : (w : World) (line : Line) → (T → IsTimely line) → GoesOn w (act w line)
   act_on w line timely = judged_on w (act_first w line) (first_on w line timely)

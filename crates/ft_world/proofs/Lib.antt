@@ -3,6 +3,8 @@ pub mod ArriveLemmas
 pub mod CallLemmas
 pub mod RetryingLemmas
 pub mod LinkLemmas
+pub mod ReplyLemmas
 pub mod PortLemmas
+pub mod LaterLemmas
 pub mod KeptLemmas
 pub mod JournalLemmas

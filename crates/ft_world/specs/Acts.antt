@@ -11,6 +11,9 @@ use Rattle.world_management.specs.Properties.{get_group_line, get_line, set_grou
 use Rattle.world_management.specs.Reading.{id_line, locations_line, member_line, ref_line}
 use Rattle.world_management.specs.Making.{client_line, group_line, hosts_line, tick_line}
 use Rattle.script_world.specs.World.{World}
+use Rattle.world_monitors.specs.Polling.{poll_line}
+use Rattle.world_monitors.specs.Subscribing.{pull_line, subscribe_line, unsubscribe_line}
+use Rattle.world_monitors.specs.Sweeping.{sweep_line}
 use Rattle.world_turns.specs.Turns.{Turn, judged}
 
 -- before its totals are judged
@@ -40,6 +43,11 @@ act_first w (lines.Change change group host) = change_line w change group host
 act_first w (lines.Grow group host) = grow_line w group host
 act_first w (lines.Crash host) = crash_line w host
 act_first w (lines.Restart host) = restart_line w host
+act_first w (lines.Poll name) = poll_line w name
+act_first w (lines.Sweep name) = sweep_line w name
+act_first w (lines.Subscribe subscriber filter) = subscribe_line w subscriber filter
+act_first w (lines.Unsubscribe subscriber) = unsubscribe_line w subscriber
+act_first w (lines.Pull subscriber) = pull_line w subscriber
 
 abbrev pub act : World → Line → Turn
 act w line = judged (act_first w line)

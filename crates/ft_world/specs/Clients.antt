@@ -20,6 +20,7 @@ use Rattle.ft_report.specs.declared.reports.ReportLine.{ReportLine}
 use Rattle.ft_report.specs.declared.reports.ReportLine.TheVariants as reports
 use Rattle.group_references.specs.Ports.{host_at}
 use Rattle.iogr_reference.specs.declared.references.GroupRef.{GroupRef}
+use Rattle.message_sizes.specs.Sizes.{request_size}
 use Rattle.script_clients.specs.declared.answers.Attempt.{Attempt}
 use Rattle.script_clients.specs.declared.answers.Told.{Told}
 use Rattle.script_clients.specs.declared.answers.Told.TheVariants as tolds
@@ -32,7 +33,7 @@ use Rattle.script_groups.specs.References.{newest_reference}
 use Rattle.script_world.specs.declared.limits.TheConstants.{DEFAULT_LIFE}
 use Rattle.script_world.specs.declared.messages.Message.TheVariants as messages
 use Rattle.ft_world.specs.Printed.{shown_outcome}
-use Rattle.script_world.specs.World.{World, client_named, with_client, with_messages}
+use Rattle.script_world.specs.World.{World, client_named, counted, with_client, with_messages}
 use Rattle.world_turns.specs.Naming.{Naming, NeverMade, Deleted, There, gone, group_called}
 use Rattle.world_turns.specs.Turns.{Effect, Turn, Refused, goes, says, saying}
 
@@ -42,7 +43,7 @@ use Rattle.world_turns.specs.Turns.{Effect, Turn, Refused, goes, says, saying}
 abbrev pub attempted : World → ℕ → List ℕ → Attempt → Option HostNo → Effect
 attempted w client name a None = says w []
 attempted w client name a (Some host) =
-    says (with_messages w (messages.Request client host a ∷ [])) (reports.Attempt (length w.messages + 1) name host a.id ∷ [])
+    says (counted (with_messages w (messages.Request client host a ∷ [])) (request_size a)) (reports.Attempt (length w.messages + 1) name host a.id ∷ [])
 
 abbrev pub attempts : World → ℕ → List ℕ → Attempt → Effect
 attempts w client name a = attempted w client name a (host_at a.port)

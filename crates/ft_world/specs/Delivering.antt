@@ -3,6 +3,7 @@ use Rattle.std.specs.Prelude.{ℕ, ◌+◌, if◌then◌else◌, List, [], ◌�
 use Rattle.ft_base.specs.declared.decisions.Stop.{Stop}
 use Rattle.ft_base.specs.declared.numbers.GroupId.{GroupId}
 use Rattle.ft_base.specs.declared.numbers.HostNo.{HostNo}
+use Rattle.ft_base.specs.declared.requests.Par.{Par}
 use Rattle.cdr_codec.specs.declared.orders.Order.TheVariants.{Big}
 use Rattle.client_retry.specs.declared.answers.Heard.{Heard}
 use Rattle.client_retry.specs.declared.answers.Heard.TheVariants as heards
@@ -31,11 +32,14 @@ use Rattle.script_world.specs.declared.messages.Message.TheVariants as messages
 use Rattle.script_world.specs.declared.messages.Reply.{Reply}
 use Rattle.ft_world.specs.Clients.{does}
 use Rattle.world_management.specs.Hosts.{stopped}
+use Rattle.ft_world.specs.Links.{port_answer}
 use Rattle.ft_world.specs.Printed.{gives_of, shown}
+use Rattle.message_sizes.specs.Sizes.{answer_size}
 use Rattle.world_turns.specs.Sending.{all_carried, sent_lines}
-use Rattle.script_world.specs.World.{World, host_clock, is_up, message_numbered, with_client, with_event, with_messages}
+use Rattle.script_world.specs.World.{World, counted, host_clock, is_up, message_numbered, with_client, with_event, with_messages}
 use Rattle.host_server.specs.Replies.{no_group}
-use Rattle.world_turns.specs.Naming.{Naming, NeverMade, Deleted, There, group_with_number}
+use Rattle.world_monitors.specs.Arriving.{ping_comes, pong_comes}
+use Rattle.world_turns.specs.Naming.{Naming, NeverMade, Deleted, There, group_with_number, late_line}
 use Rattle.world_turns.specs.Turns.{Effect, Turn, Refused, costing, goes, says}
 
 -- ---- a request comes to its host
@@ -68,10 +72,20 @@ abbrev pub reply_to : Asker → Answer → Reply
 reply_to a answer =
     record { client = a.client; group = a.group; host = a.host; id = a.id; answer = answer; gives = a.gives }
 
+-- the bytes of its reply, as it would go over a link
+abbrev pub reply_bytes : Option (Placed ScriptGroup) → Option Par → Answer → ℕ
+reply_bytes None gives answer = 0
+reply_bytes (Some g) gives answer = answer_size (port_answer g.value gives answer)
+
+-- a reply is sent
+abbrev pub replied : World → Asker → Answer → World
+replied w a answer =
+    counted (with_messages w (messages.Reply (reply_to a answer) ∷ [])) (reply_bytes (group_numbered w.groups a.group.0) a.gives answer)
+
 -- what the host made of it: it replies and sends its orders, or it stops, or it is down
 abbrev pub answered : World → ℕ → Asker → GroupAnswer → Effect
 answered w k a (group_answers.Reply decision (Some answer) out) =
-    says (with_messages (with_messages w (messages.Reply (reply_to a answer) ∷ [])) (all_carried a.group out))
+    says (with_messages (replied w a answer) (all_carried a.group out))
     (reports.At a.host a.group_name decision
     ∷ reports.Reply (length w.messages + 1) a.host a.client_name a.id (shown a.group_name a.gives answer)
     ∷ sent_lines (length w.messages + 2) a.group_name a.host out)
@@ -84,7 +98,7 @@ answered w k a other = says w []
 abbrev pub turned_away : World → ℕ → Asker → Effect
 turned_away w k a =
     if is_up w a.host.0 then
-    says (with_messages w (messages.Reply (reply_to a (answers.System no_group)) ∷ []))
+    says (replied w a (answers.System no_group))
     (reports.NoGroup a.host ∷ reports.Reply (length w.messages + 1) a.host a.client_name a.id (shown a.group_name a.gives (answers.System no_group)) ∷ [])
     else says w (reports.Lost k ∷ [])
 
@@ -143,10 +157,6 @@ came k name to index (group_answers.Ignored why) = reports.Ignored k why ∷ []
 came k name to index group_answers.Down = reports.Lost k ∷ []
 came k name to index other = []
 
--- where its group was deleted
-abbrev pub late_line : World → ℕ → HostNo → ReportLine
-late_line w k to = if is_up w to.0 then reports.IgnoredDeleted k else reports.Lost k
-
 abbrev pub brought_to : World → ℕ → Out → Naming → Effect
 brought_to w k out NeverMade = says w []
 brought_to w k out (Deleted g) = says w (late_line w k out.to ∷ [])
@@ -161,6 +171,8 @@ arrives w k stop (messages.Request client host a) =
     requested w k client host a stop (group_with_number w a.group.0) (slice_get w.clients client)
 arrives w k stop (messages.Reply r) = heard_by w k r (slice_get w.clients r.client)
 arrives w k stop (messages.Carried group out) = brought_to w k out (group_with_number w group.0)
+arrives w k stop (messages.Ping group host) = ping_comes w k group host
+arrives w k stop (messages.Pong group host) = pong_comes w k group host
 
 abbrev pub delivered : World → ℕ → Stop → Option Message → Turn
 delivered w k stop None = Refused Unknown 0

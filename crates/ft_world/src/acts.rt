@@ -9,16 +9,18 @@ use crate::calls::call_line;
 use crate::deliveries::deliver_line;
 use crate::links::inject_line;
 use crate::retrying::{bind_line, timeout_line};
+use fault_notifier::EVENT_LIMIT;
 use fault_script::{LimitName, Line, LineFault};
 use ft_base::Steps;
 use ft_report::ReportLines;
-use script_world::{ENTRY_LIMIT, MESSAGE_LIMIT, World};
+use script_world::{BYTE_LIMIT, ENTRY_LIMIT, MESSAGE_LIMIT, World};
 use std::sync::ledger::Ledger;
 use world_management::{
     change_line, client_line, crash_line, create_line, delete_line, get_group_line, get_line,
     group_line, grow_line, hosts_line, id_line, locations_line, member_line, ref_line,
     restart_line, set_group_line, set_line, show_line, tick_line, unset_line,
 };
+use world_monitors::{poll_line, pull_line, subscribe_line, sweep_line, unsubscribe_line};
 
 // Time goes on by a number of 32 bits.
 fn is_timely(line: &Line)
@@ -83,6 +85,11 @@ fn act_first<L: Ledger>(
         Line::Grow { group, host } => grow_line(world, &group, host, steps),
         Line::Crash(host) => crash_line(world, host, steps),
         Line::Restart(host) => restart_line(world, host, steps),
+        Line::Poll(name) => poll_line(world, &name),
+        Line::Sweep(name) => sweep_line(world, &name, steps),
+        Line::Subscribe { subscriber, filter } => subscribe_line(world, subscriber, &filter),
+        Line::Unsubscribe(subscriber) => unsubscribe_line(world, subscriber),
+        Line::Pull(subscriber) => pull_line(world, subscriber),
     }
 }
 
@@ -96,6 +103,12 @@ fn refuses(world: &World) -> Option<LineFault>
     }
     if world.message_count() > MESSAGE_LIMIT {
         return Some(LineFault::Limit(LimitName::Messages));
+    }
+    if world.bytes() > BYTE_LIMIT {
+        return Some(LineFault::Limit(LimitName::Bytes));
+    }
+    if world.faults() as usize > EVENT_LIMIT {
+        return Some(LineFault::Limit(LimitName::Faults));
     }
     None
 }

@@ -17,6 +17,7 @@ use ft_base::{GroupId, Key, Name, NoMemory, Par, Request, Retention, Tick, Versi
 use ft_report::{ReportLine, ReportLines};
 use group_references::host_at;
 use iogr_reference::GroupRef;
+use message_sizes::request_size;
 use script_clients::{Attempt, ScriptClient, Told};
 use script_world::{Begun, DEFAULT_LIFE, Message, World};
 use world_turns::{Named, gone, group_called, one_line};
@@ -63,11 +64,14 @@ fn push_attempt(
         host,
         id: attempt.id,
     })?;
+    let bytes = request_size(&attempt);
     world.send(Message::Request {
         client,
         host,
         attempt,
-    })
+    })?;
+    world.count_bytes(bytes);
+    Ok(())
 }
 
 // A client goes on over a newer reference.

@@ -1,5 +1,5 @@
 //! Messages that come to their hosts and clients.
-ghost use Rattle.std.specs.Prelude.{◌≡◌, ℕ, ◌+◌, ◌<◌, ◌≤◌, [], ◌∷◌, IfOk, List, None, Some, length, option_map, slice_get};
+ghost use Rattle.std.specs.Prelude.{◌≡◌, ℕ, ◌+◌, ◌<◌, ◌≤◌, [], ◌∷◌, Bool, IfOk, OnOk, List, None, Some, length, option_map, slice_get};
 ghost use Rattle.std.specs.List.{AllByRecursion};
 ghost use Rattle.ft_base.specs.declared.limits.TheConstants.{HOST_LIMIT};
 ghost use Rattle.group_model.specs.Agreeing.{IsShortAsked};
@@ -7,7 +7,11 @@ ghost use Rattle.group_model.specs.Sending.{brought, sent_by};
 ghost use Rattle.group_model.specs.declared.events.Out.{Out as AnOut};
 ghost use Rattle.script_groups.specs.Groups.{ScriptGroup as Group, group_numbered, placed};
 ghost use Rattle.world_turns.specs.Answers.{Acts, Does};
-ghost use Rattle.ft_world.specs.Delivering.{answered, arrives, asked_by, asker_of, brought_to, came, deliver_line, heard_by, heard_of, held, index_of, late_line, redirected_to, reply_to, requested, turned_away};
+ghost use Rattle.message_sizes.specs.Sizes.{answer_size};
+ghost use Rattle.script_groups.specs.References.{ior_at};
+ghost use Rattle.ft_world.specs.Links.{forward_by, port_answer};
+ghost use Rattle.ft_world.specs.Serving.{AreInForm, IsInForm};
+ghost use Rattle.ft_world.specs.Delivering.{answered, arrives, asked_by, asker_of, brought_to, came, deliver_line, heard_by, heard_of, held, index_of, redirected_to, replied, requested, turned_away};
 ghost use Rattle.host_server.specs.Replies.{no_group};
 ghost use Rattle.ft_base.specs.declared.decisions.Stop.{Stop as AStop};
 ghost use Rattle.script_groups.specs.Acting.{MayCome};
@@ -24,12 +28,16 @@ use fault_script::LineFault;
 use ft_base::{Decision, GroupId, HostNo, Name, NoMemory, Par, Request, Steps, Stop, Version};
 use ft_report::{ReportLine, ReportLines, ReportOutcome};
 use group_model::{Asked, Event, GroupAnswer, Inner, Out, OutList};
+use link_session::view_references_can_be_sent;
+use message_sizes::{fault_size, forward_size, outcome_size};
 use script_clients::Attempt;
+use script_groups::{answers_are_in_form, shown_are_views};
 use script_world::{Message, Reply, World};
 use std::alloc::Global;
 use std::sync::ledger::Ledger;
 use sys_faults::{Answer, Completed, SysFault, SysKind};
-use world_turns::{Named, group_with_number, one_line, send_all};
+use world_monitors::{ping_comes, pong_comes};
+use world_turns::{Named, group_with_number, late_line, one_line, send_all};
 
 /// Whom a request is from, where it came, and how its reply is printed.
 #[derive(Drop)]
@@ -225,6 +233,65 @@ fn stopped_report(alloc: Global, asker: Asker, decision: Decision) -> Result<Rep
     Ok(report)
 }
 
+// The bytes of a reply by which a client is turned to the view of this version of the group at this place.
+fn redirect_size(world: &World, place: usize, version: Version) -> Result<u128, NoMemory>
+    requires within { place < length world.now.groups }
+    requires kept { IsKeptWorld world.now }
+    ensures { (g : Group) (perm : Bool) → slice_get world.now.groups place ≡ Some g →
+        IfOk result (λ size. size ≡ answer_size (forward_by perm (ior_at g version.0))) }
+{
+    view_references_can_be_sent();
+    shown_are_views();
+    let group = world.group(place);
+    group.is_sound();
+    match group.ior_at(world.alloc(), version, world.ports())? {
+        Some(body) => forward_size(world.alloc(), &body),
+        None => Ok(fault_size(&no_group())),
+    }
+}
+
+// The bytes of a reply of the group at this place, as it would go over a link.
+fn reply_size(
+    world: &World,
+    place: usize,
+    gives: Option<Par>,
+    answer: &Answer,
+) -> Result<u128, NoMemory>
+    requires within { place < length world.now.groups }
+    requires kept { IsKeptWorld world.now }
+    requires form { IsInForm gives answer.now }
+    ensures { (g : Group) → slice_get world.now.groups place ≡ Some g → IfOk result (λ size. size ≡ answer_size (port_answer g gives answer.now)) }
+{
+    match answer {
+        Answer::Done(outcome) => Ok(outcome_size(gives, outcome)),
+        Answer::System(fault) => Ok(fault_size(fault)),
+        Answer::Forward(version) => redirect_size(world, place, *version),
+        Answer::ForwardPerm(version) => redirect_size(world, place, *version),
+    }
+}
+
+// Sends a reply.
+fn send_reply(world: &mut World, asker: &Asker, answer: Answer) -> Result<(), NoMemory>
+    requires kept { IsKeptWorld world.old }
+    requires form { IsInForm asker.now.gives answer }
+    ensures { OnOk result (world.new ≡ replied world.old asker.now answer) }
+{
+    let bytes = match world.numbered_place(asker.group) {
+        Some(place) => reply_size(world, place, asker.gives, &answer)?,
+        None => 0,
+    };
+    world.send(Message::Reply(Reply {
+        client: asker.client,
+        group: asker.group,
+        host: asker.host,
+        id: asker.id,
+        answer,
+        gives: asker.gives,
+    }))?;
+    world.count_bytes(bytes);
+    Ok(())
+}
+
 // The reply is sent, and then what goes to other members.
 fn reply(
     world: &mut World,
@@ -233,29 +300,22 @@ fn reply(
     answer: Answer,
     out: OutList,
 ) -> Result<ReportLines, NoMemory>
-    requires { AllByRecursion (λ o. IsOnItsWay world.old.groups (carried asker.group o)) out }
+    requires kept { IsKeptWorld world.old }
+    requires form { IsInForm asker.gives answer }
+    requires sent { AllByRecursion (λ o. IsOnItsWay world.old.groups (carried asker.group o)) out }
     ensures { (k calls : ℕ) → Does (answered world.old k asker (GroupAnswer.Reply decision (Some answer) out)) result world.new calls calls }
 {
     let number = world.message_count() as u64 + 1;
     let mut report = answered_report(world.alloc(), &asker, decision, number, &answer)?;
-    let Asker {
-        client,
-        client_name: _,
-        host,
-        id,
-        group,
-        group_name,
-        gives,
-    } = asker;
-    world.send(Message::Reply(Reply {
-        client,
-        group,
-        host,
-        id,
-        answer,
-        gives,
-    }))?;
-    send_all(world, &mut report, group, &group_name, host, out)?;
+    send_reply(world, &asker, answer)?;
+    send_all(
+        world,
+        &mut report,
+        asker.group,
+        &asker.group_name,
+        asker.host,
+        out,
+    )?;
     Ok(report)
 }
 
@@ -286,6 +346,7 @@ fn answered<L: Ledger>(
 ) -> Result<ReportLines, NoMemory>
     requires kept { IsKeptWorld world.old }
     requires host { asker.host.0 < HOST_LIMIT }
+    requires form { AreInForm asker.gives answer }
     requires sent { AllByRecursion (λ o. IsOnItsWay world.old.groups (carried asker.group o)) (sent_by answer) }
     ensures { Does (answered world.old number asker answer) result world.new steps.old steps.new }
 {
@@ -365,6 +426,7 @@ fn turned_away_report(alloc: Global, asker: &Asker, message: u64) -> Result<Repo
 
 // A request for a group that was deleted comes to its host.
 fn turn_away(world: &mut World, number: u64, asker: Asker) -> Result<ReportLines, NoMemory>
+    requires { IsKeptWorld world.old }
     ensures { (calls : ℕ) → Does (turned_away world.old number asker) result world.new calls calls }
 {
     if !world.is_up(asker.host) {
@@ -372,14 +434,7 @@ fn turn_away(world: &mut World, number: u64, asker: Asker) -> Result<ReportLines
     }
     let message = world.message_count() as u64 + 1;
     let report = turned_away_report(world.alloc(), &asker, message)?;
-    world.send(Message::Reply(Reply {
-        client: asker.client,
-        group: asker.group,
-        host: asker.host,
-        id: asker.id,
-        answer: Answer::System(no_group()),
-        gives: asker.gives,
-    }))?;
+    send_reply(world, &asker, Answer::System(no_group()))?;
     Ok(report)
 }
 
@@ -422,6 +477,8 @@ fn arrive_at<L: Ledger>(
         result world.new steps.old steps.new }
 {
     let alloc = world.alloc();
+    answers_are_in_form();
+    world.group(place).is_sound();
     let Some(asker) = who_asks(world, client, host, &attempt, place)? else {
         return Ok(ReportLines::new(alloc));
     };
@@ -458,17 +515,6 @@ fn arrive<L: Ledger>(
         Named::There(place) => {
             arrive_at(world, number, client, host, attempt, place, stop, steps)
         }
-    }
-}
-
-// What is printed where a message comes for a group that was deleted.
-fn late_line(world: &World, number: u64, to: HostNo) -> ReportLine
-    ensures { result ≡ late_line world.now number to }
-{
-    if world.is_up(to) {
-        ReportLine::IgnoredDeleted { message: number }
-    } else {
-        ReportLine::Lost { message: number }
     }
 }
 
@@ -588,6 +634,8 @@ fn deliver<L: Ledger>(
         } => arrive(world, number, client, host, attempt, stop, steps),
         Message::Reply(reply) => hear(world, number, reply),
         Message::Carried { group, out } => bring(world, number, group, out, steps),
+        Message::Ping { group, host } => ping_comes(world, number, group, host),
+        Message::Pong { group, host } => pong_comes(world, number, group, host),
     }
 }
 

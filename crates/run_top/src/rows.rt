@@ -240,7 +240,7 @@ const MEMBERS: [Row; 10] = [
 ];
 
 // Scripts with clients that try again.
-const RETRIES: [Row; 4] = [
+const RETRIES: [Row; 5] = [
     // A client whose attempt timed out finds the new primary, and its request was accepted.
     Row {
         script: b"hosts 2\ngroup bank account cold 0 1\nclient ann\ncall ann bank deposit 5\ndeliver 1 crash append\nreport bank 0\ndeliver 3\ntimeout ann\ndeliver 4\ndeliver 5\ndeliver 6\n",
@@ -267,6 +267,13 @@ const RETRIES: [Row; 4] = [
         script: b"hosts 2\ngroup bank account cold 0 1\nclient ann\ncall ann bank deposit 5\ntimeout ann\ntimeout ann\ntimeout ann\ntimeout ann\ntimeout ann\ntimeout ann\ncall ann bank deposit 5 exp=10\ntick 10\ntimeout ann\ntimeout ann\n",
         status: 0,
         out: b"group bank 1\nview bank 1 members 0,1 primary 0\nmsg 1 client ann to host 0 request 1\nmsg 2 client ann to host 1 request 2\nmsg 3 client ann to host 0 request 3\nmsg 4 client ann to host 1 request 4\nmsg 5 client ann to host 0 request 5\nmsg 6 client ann to host 1 request 6\ndone ann 1 system TRANSIENT 1 maybe faults 6 profiles 2\nmsg 7 client ann to host 0 request 7\ndone ann 2 system NO_RESPONSE 1 maybe exp 10 now 10\nidle ann\n",
+        err: b"",
+    },
+    // The monitor asks both members, one of which is down; that one is reported, and a subscriber is told.
+    Row {
+        script: b"hosts 2\ngroup bank account cold 0 1\nsubscribe s -\npoll bank\ncrash 0\ndeliver 1\ndeliver 2\ndeliver 3\ntick 5\npoll bank\nsweep bank\npull s\npull s\n",
+        status: 0,
+        out: b"group bank 1\nview bank 1 members 0,1 primary 0\nsubscribed s\nmsg 1 monitor to host 0 ping bank\nmsg 2 monitor to host 1 ping bank\ndown 0\nlost 1\nmsg 3 host 1 to monitor pong bank\nalive bank 1\npoll bank none\nview bank 2 members 1 primary 1\nmsg 4 manager to host 0 view bank 2\nmsg 5 manager to host 1 view bank 2\nfault s h0 1 bank\nfault s none\n",
         err: b"",
     },
 ];
@@ -308,7 +315,7 @@ const REFUSALS: [(&[u8], &[u8]); 29] = [
         b"hosts 1\ngroup g account cold 0\nmember g 10000000000000000000\n",
         b"ftc: line 3: unknown\n",
     ),
-    (b"poll bank\n", b"ftc: line 1: later\n"),
+    (b"checkpoint bank\n", b"ftc: line 1: later\n"),
     (
         b"set default org.omg.ft.ReplicationStyle ACTIVE\n",
         b"ftc: line 1: later\n",

@@ -171,6 +171,8 @@ message_follows : (gs hs : List ScriptGroup) → AllFollow gs hs → (m : Messag
 message_follows gs hs all (messages.Request client host attempt) comes = comes
 message_follows gs hs all (messages.Reply reply) comes = comes
 message_follows gs hs all (messages.Carried group out) comes = numbered_follows gs hs group.0 out all comes
+message_follows gs hs all (messages.Ping group host) comes = comes
+message_follows gs hs all (messages.Pong group host) comes = comes
 
 -- a world with other groups that come of its own
 pub sound_groups : (w : World) (hs : List ScriptGroup) → IsSound w → AllFollow w.groups hs → IsSound (record w { groups = hs })
@@ -183,6 +185,7 @@ sound_groups w hs sound all = record {
   on_their_way = all_mapped (IsOnItsWay w.groups) (IsOnItsWay hs) w.messages (message_follows w.groups hs all) sound.on_their_way;
   fresh = λ n past. sound.fresh n (omega (arith, past, follow_count w.groups hs all));
   once = sound.once;
+  few_bytes = sound.few_bytes;
 }
 
 -- ---- one event at one group
@@ -289,6 +292,8 @@ added_follows gs g (suc i) out comes =
 message_stays : (gs : List ScriptGroup) (g : ScriptGroup) (m : Message) → IsOnItsWay gs m → IsOnItsWay (gs ++ g ∷ []) m
 message_stays gs g (messages.Request client host attempt) comes = comes
 message_stays gs g (messages.Reply reply) comes = comes
+message_stays gs g (messages.Ping group host) comes = comes
+message_stays gs g (messages.Pong group host) comes = comes
 message_stays gs g (messages.Carried group out) comes = added_follows gs g group.0 out comes
 
 last_in_order : (gs : List ScriptGroup) (g : ScriptGroup) (base : ℕ) → ((i : ℕ) (x : ScriptGroup) → slice_get gs i ≡ Some x → x.id.0 ≡ base + i + 1) → g.id.0 ≡ base + length gs + 1 →
@@ -317,6 +322,7 @@ sound_added w g criteria sound room its_own numbered = record {
       ∙ sound.fresh n (omega (arith, past, count_added w.groups g))
       );
   once = once_put w.settings.groups g.id.0 (taken w.settings (type_id g.kind) criteria) sound.once;
+  few_bytes = sound.few_bytes;
 }
 
 -- ---- what is set
@@ -343,6 +349,7 @@ sound_put w place g levels at sound = record {
       other_put w.settings.groups g.id.0 n levels (λ same. omega (arith, past, number_within w.groups place g sound.ordered at)) ∙ sound.fresh n past
       );
   once = once_put w.settings.groups g.id.0 levels sound.once;
+  few_bytes = sound.few_bytes;
 }
 
 -- whatever came of setting properties of a group that runs
@@ -368,6 +375,7 @@ sound_dropped w number sound = record {
   on_their_way = sound.on_their_way;
   fresh = λ n past. none_dropped w.settings.groups sound.once number n (sound.fresh n past);
   once = once_dropped w.settings.groups number sound.once;
+  few_bytes = sound.few_bytes;
 }
 
 -- ---- time, and hosts that stop and start
@@ -397,6 +405,7 @@ sound_passed w ticks clock hosts is are sound = record {
   on_their_way = sound.on_their_way;
   fresh = sound.fresh;
   once = sound.once;
+  few_bytes = sound.few_bytes;
 }
 
 power_may : (up : Bool) (host : HostNo) → host.0 < HOST_LIMIT → (g : ScriptGroup) → MayCome g (power_event up host)
@@ -424,4 +433,5 @@ sound_powered w up host hosts groups place stay last inside hosts_are groups_are
       on_their_way = after.on_their_way;
       fresh = after.fresh;
       once = after.once;
+      few_bytes = after.few_bytes;
     }

@@ -10,7 +10,7 @@ use Rattle.script_clients.specs.Clients.{Client}
 use Rattle.script_groups.specs.Acting.{AreKept, IsSoundGroup, MayCome}
 use Rattle.script_groups.specs.Groups.{ScriptGroup, Placed, group_numbered}
 use Rattle.script_world.specs.declared.hosts.HostState.{HostState}
-use Rattle.script_world.specs.declared.limits.TheConstants.{GROUP_LIMIT}
+use Rattle.script_world.specs.declared.limits.TheConstants.{BYTE_LIMIT, GROUP_LIMIT}
 use Rattle.script_world.specs.declared.messages.Message.{Message}
 use Rattle.script_world.specs.declared.messages.Message.TheVariants as messages
 use Rattle.script_world.specs.World.{World}
@@ -25,6 +25,8 @@ abbrev pub IsOnItsWay : List ScriptGroup → Message → Type 0
 IsOnItsWay groups (messages.Request client host attempt) = host.0 < HOST_LIMIT
 IsOnItsWay groups (messages.Reply reply) = Unit {0}
 IsOnItsWay groups (messages.Carried group out) = MayComeTo (group_numbered groups group.0) out
+IsOnItsWay groups (messages.Ping group host) = Unit {0}
+IsOnItsWay groups (messages.Pong group host) = Unit {0}
 
 -- the group with number N is the N-th
 abbrev pub AreInOrder : List ScriptGroup → Type 0
@@ -41,6 +43,7 @@ pub record IsSound (w : World) : Type 0 where
   pub fresh : (n : ℕ) → length w.groups < n → group_of w.settings.groups n ≡ None
   -- each group that is there takes what is set once
   pub once : IsDistinct nat_eq (keys_of w.settings.groups)
+  pub few_bytes : w.bytes ≤ BYTE_LIMIT + 1
 
 -- memory was not wanted in any of its groups
 abbrev pub IsKeptWorld : World → Type 0

@@ -10,4 +10,7 @@ world_of a = record {
   clients = a.clients.items;
   messages = a.messages.items;
   settings = a.settings;
+  watch = a.monitor;
+  subscribers = a.subscribers;
+  bytes = a.bytes;
 }

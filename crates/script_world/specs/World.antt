@@ -1,15 +1,20 @@
--- The world of a script: its clock, hosts, groups, clients, messages and properties, and the small changes of it.
-use Rattle.std.specs.Prelude.{ℕ, ◌+◌, ◌-◌, ◌++◌, ◌==◌, Bool, true, false, nat_lt, if◌then◌else◌, List, [], ◌∷◌, length, map, replicate, slice_get, slice_set, Option, Some, None, is_none}
+-- The world of a script: its clock, hosts, groups, clients, messages, properties, monitor and subscribers, and the
+-- small changes of it.
+use Rattle.std.specs.Prelude.{ℕ, ◌+◌, ◌-◌, ◌++◌, ◌==◌, Bool, true, false, nat_le, nat_lt, if◌then◌else◌, List, [], ◌∷◌, length, map, replicate, slice_get, slice_set, Option, Some, None, is_none}
 use Rattle.std.specs.List.{list_any}
 use Rattle.std.specs.Str.{bytes_eq}
 use Rattle.ft_base.specs.declared.numbers.GroupId.{GroupId}
+use Rattle.fault_notifier.specs.declared.events.FaultEvent.{FaultEvent}
 use Rattle.group_model.specs.declared.events.Event.{Event}
 use Rattle.group_model.specs.declared.events.Out.{Out}
 use Rattle.property_manager.specs.declared.settings.Property.{Property}
 use Rattle.property_manager.specs.Groups.{Settings, dropped, group_of, nothing_set, put_group, taken}
 use Rattle.script_clients.specs.Clients.{Client}
 use Rattle.script_groups.specs.Groups.{ScriptGroup, Placed, acted, all_acted, found}
+use Rattle.script_monitor.specs.Watches.{Watches, nobody}
+use Rattle.script_subscribers.specs.Subscribers.{Subscriber, Subscribers, nobody_listens, told}
 use Rattle.script_world.specs.declared.hosts.HostState.{HostState}
+use Rattle.script_world.specs.declared.limits.TheConstants.{BYTE_LIMIT}
 use Rattle.script_world.specs.declared.messages.Message.{Message}
 use Rattle.script_world.specs.declared.messages.Message.TheVariants as messages
 use Rattle.shipped_servants.specs.Kinds.{type_id}
@@ -25,9 +30,25 @@ pub record World : Type 0 where
   pub messages : List Message
   -- what is set for all groups, by type, and for each group that is there
   pub settings : Settings
+  -- whom the monitor watches, and what it heard of them
+  pub watch : Watches
+  -- who is told of faults
+  pub subscribers : Subscribers
+  -- the bytes in messages, counted up to one more than there can be
+  pub bytes : ℕ
 
 abbrev pub empty : World
-empty = record { clock = 0; hosts = []; groups = []; clients = []; messages = []; settings = nothing_set }
+empty = record {
+  clock = 0;
+  hosts = [];
+  groups = [];
+  clients = [];
+  messages = [];
+  settings = nothing_set;
+  watch = nobody;
+  subscribers = nobody_listens;
+  bytes = 0;
+}
 
 -- ---- what is there
 
@@ -52,11 +73,12 @@ host_clock w host = clock_of (slice_get w.hosts host)
 abbrev pub client_named : World → List ℕ → Option (Placed Client)
 client_named w name = found (λ (c : Client). bytes_eq c.name name) 0 w.clients
 
--- a group or a client was made with this name
+-- a group, a client or a subscriber was made with this name
 abbrev pub is_named : World → List ℕ → Bool
 is_named w name =
     if list_any (λ (g : ScriptGroup). bytes_eq g.name name) w.groups then true
-    else list_any (λ (c : Client). bytes_eq c.name name) w.clients
+    else (if list_any (λ (c : Client). bytes_eq c.name name) w.clients then true
+    else list_any (λ (s : Subscriber). bytes_eq s.name name) w.subscribers.all)
 
 -- a group is there until it is deleted: as long as the manager of properties has it
 abbrev pub is_deleted : World → ScriptGroup → Bool
@@ -118,3 +140,21 @@ ticked ticks h = if h.up then record h { clock = h.clock + ticks } else h
 
 abbrev pub passed : World → ℕ → World
 passed w ticks = record w { clock = w.clock + ticks; hosts = map (ticked ticks) w.hosts }
+
+-- what the monitor heard is this now
+abbrev pub with_watch : World → Watches → World
+with_watch w watch = record w { watch = watch }
+
+abbrev pub with_subscribers : World → Subscribers → World
+with_subscribers w s = record w { subscribers = s }
+
+-- a fault was reported, and all whom it concerns are told
+abbrev pub with_fault : World → FaultEvent → World
+with_fault w event = with_subscribers w (told w.subscribers event)
+
+abbrev pub at_most_one_past : ℕ → ℕ
+at_most_one_past bytes = if nat_le bytes BYTE_LIMIT then bytes else BYTE_LIMIT + 1
+
+-- so many bytes more were sent in messages
+abbrev pub counted : World → ℕ → World
+counted w bytes = record w { bytes = at_most_one_past (w.bytes + bytes) }

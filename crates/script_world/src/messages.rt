@@ -35,6 +35,16 @@ pub enum Message {
         group: GroupId,
         out: Out,
     },
+    /// The monitor asks a member of a group, on this host, whether it is alive.
+    Ping {
+        group: GroupId,
+        host: HostNo,
+    },
+    /// A host answers the monitor that it is alive, for this group.
+    Pong {
+        group: GroupId,
+        host: HostNo,
+    },
 }
 
 fn copy_inner(alloc: Global, carried: &Inner) -> Result<Inner, NoMemory>
@@ -141,6 +151,14 @@ impl Message {
                     out: Out { to, carried },
                 })
             }
+            Message::Ping { group, host } => Ok(Message::Ping {
+                group: *group,
+                host: *host,
+            }),
+            Message::Pong { group, host } => Ok(Message::Pong {
+                group: *group,
+                host: *host,
+            }),
         }
     }
 }

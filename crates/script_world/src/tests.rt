@@ -81,6 +81,8 @@ fn shown(message: &Message) -> (&'static str, u8, u32) {
             Inner::Order { index, .. } => ("order", out.to.0, *index),
             _ => ("other", out.to.0, 0),
         },
+        Message::Ping { host, .. } => ("ping", host.0, 0),
+        Message::Pong { host, .. } => ("pong", host.0, 0),
     }
 }
 
@@ -103,6 +105,11 @@ fn messages_are_copied(rt: HostRuntime) -> Result<(), NoMemory> {
     };
     let copy = ordered.copy(alloc)?;
     assert!(rt; shown(&copy) == ("order", 1, 3));
+    let ping = Message::Ping {
+        group: GroupId(1),
+        host: HostNo(1),
+    };
+    assert!(rt; shown(&ping.copy(alloc)?) == ("ping", 1, 0));
     Ok(())
 }
 

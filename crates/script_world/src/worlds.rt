@@ -23,6 +23,8 @@ use iogr_reference::{GroupRef, Ports};
 use property_manager::PropertyManager;
 use script_clients::{ScriptClient, Told};
 use script_groups::{ScriptGroup, groups_go_on};
+use script_monitor::ScriptMonitor;
+use script_subscribers::Subscribers;
 use std::alloc::Global;
 use std::marker::Model;
 use std::sync::ledger::Ledger;
@@ -39,7 +41,8 @@ pub struct Begun {
 }
 
 /// All that a script made: the hosts with their clocks, the groups, also those that were deleted, the
-/// clients, every message that was ever sent, and the properties that are set.
+/// clients, every message that was ever sent, the properties that are set, whom the monitor watches, who is
+/// told of faults, and how many bytes there are in messages.
 pub struct World {
     clock: u64,
     hosts: Vec<HostState>,
@@ -47,6 +50,9 @@ pub struct World {
     clients: Vec<ScriptClient>,
     messages: Vec<Message>,
     pub(crate) settings: PropertyManager,
+    pub(crate) monitor: ScriptMonitor,
+    pub(crate) subscribers: Subscribers,
+    pub(crate) bytes: u32,
     ports: Ports,
 }
 
@@ -60,6 +66,9 @@ impl Drop for World {
             clients: _,
             messages: _,
             settings: _,
+            monitor: _,
+            subscribers: _,
+            bytes: _,
             ports: _,
         } = self;
     }
@@ -231,6 +240,9 @@ impl World {
             clients: Vec::new(alloc),
             messages: Vec::new(alloc),
             settings: PropertyManager::new(alloc),
+            monitor: ScriptMonitor::new(alloc),
+            subscribers: Subscribers::new(alloc),
+            bytes: 0,
             ports,
         })
     }
@@ -290,11 +302,13 @@ impl World {
         }
     }
 
-    /// A group or a client was made with this name.
+    /// A group, a client or a subscriber was made with this name.
     pub fn is_named(&self, name: &Name) -> bool
         ensures { result ≡ is_named self.now name.now }
     {
-        is_group(self.groups.as_slice(), name) || is_client(self.clients.as_slice(), name)
+        is_group(self.groups.as_slice(), name)
+            || is_client(self.clients.as_slice(), name)
+            || self.subscribers.is_named(name)
     }
 
     pub fn group_place(&self, name: &Name) -> Option<usize>

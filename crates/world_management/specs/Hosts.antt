@@ -1,6 +1,8 @@
--- Lines that stop and start hosts and change members, and what `show` prints.
+-- Lines that stop and start hosts, change members and report faults, and what `show` prints.
 use Rattle.std.specs.Prelude.{ℕ, ◌+◌, not, false, if◌then◌else◌, List, [], ◌∷◌, length}
+use Rattle.ft_base.specs.declared.numbers.GroupId.{GroupId}
 use Rattle.ft_base.specs.declared.numbers.HostNo.{HostNo}
+use Rattle.fault_notifier.specs.declared.events.FaultEvent.{FaultEvent}
 use Rattle.fault_script.specs.declared.lines.LineFault.TheVariants.{Unknown}
 use Rattle.fault_script.specs.declared.lines.MemberChange.{MemberChange}
 use Rattle.fault_script.specs.declared.lines.MemberChange.TheVariants as words
@@ -11,11 +13,14 @@ use Rattle.group_model.specs.declared.events.Event.TheVariants as events
 use Rattle.group_model.specs.declared.events.GroupAnswer.{GroupAnswer}
 use Rattle.group_model.specs.declared.events.GroupAnswer.TheVariants as group_answers
 use Rattle.group_model.specs.Views.{host_no}
+use Rattle.iogr_reference.specs.declared.choices.TheConstants.{DOMAIN}
 use Rattle.script_groups.specs.Groups.{ScriptGroup, Placed, turn}
 use Rattle.script_groups.specs.Showing.{shown}
 use Rattle.script_world.specs.declared.hosts.HostState.{HostState}
+use Rattle.script_world.specs.World.{World, fresh_host, is_there, is_up, with_event, with_fault, with_host, with_messages}
+use Rattle.shipped_servants.specs.declared.kinds.Kind.{Kind}
+use Rattle.shipped_servants.specs.Kinds.{type_id}
 use Rattle.world_turns.specs.Sending.{all_carried, sent_lines, view_line}
-use Rattle.script_world.specs.World.{World, fresh_host, is_there, is_up, with_event, with_host, with_messages}
 use Rattle.world_turns.specs.Naming.{Naming, NeverMade, Deleted, There, gone, group_called}
 use Rattle.world_turns.specs.Turns.{Cause, Effect, Turn, Refused, cause, costing, first_cause, goes, says, unless}
 
@@ -57,17 +62,27 @@ change_of words.Remove host = changes.Remove host
 change_of words.Primary host = changes.Primary host
 change_of words.Report host = changes.Report host
 
+-- the fault of a member of a group of this kind, as subscribers are told of it (chapter 23, Fault Management)
+abbrev pub fault_of : Kind → GroupId → HostNo → FaultEvent
+fault_of kind group host = record { domain = DOMAIN; host = host; type_id = type_id kind; group = group }
+
+-- a report that was accepted is a fault; no other change is
+abbrev pub with_reported : World → Kind → GroupId → Change → World
+with_reported w kind group (changes.Report host) = with_fault w (fault_of kind group host)
+with_reported w kind group other = w
+
 -- the new view is sent, or the change was refused
-abbrev pub changed : World → HostNo → ScriptGroup → GroupAnswer → Effect
-changed w host g (group_answers.Changed view out) =
-    says (with_messages w (all_carried g.id out)) (view_line g.name view ∷ sent_lines (length w.messages + 1) g.name host out)
-changed w host g (group_answers.Refused why) = says w (reports.Refused why ∷ [])
-changed w host g other = says w []
+abbrev pub changed : World → HostNo → ScriptGroup → Change → GroupAnswer → Effect
+changed w host g change (group_answers.Changed view out) =
+    says (with_reported (with_messages w (all_carried g.id out)) g.kind g.id change)
+    (view_line g.name view ∷ sent_lines (length w.messages + 1) g.name host out)
+changed w host g change (group_answers.Refused why) = says w (reports.Refused why ∷ [])
+changed w host g change other = says w []
 
 abbrev pub changes_members : World → Placed ScriptGroup → Change → HostNo → Effect
 changes_members w g change host =
     let t = turn g.value (events.Manage change) in
-    costing t.calls (changed (with_event w g.place g.value (events.Manage change)) host g.value t.answer)
+    costing t.calls (changed (with_event w g.place g.value (events.Manage change)) host g.value change t.answer)
 
 abbrev pub change_to : World → Naming → MemberChange → ℕ → Turn
 change_to w NeverMade change host = Refused Unknown 0

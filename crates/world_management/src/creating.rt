@@ -102,7 +102,7 @@ fn push_lacking(
     Ok(())
 }
 
-fn type_name(alloc: Global, kind: Kind) -> Result<Name, NoMemory>
+pub(crate) fn type_name(alloc: Global, kind: Kind) -> Result<Name, NoMemory>
     ensures { IfOk result (λ name. name ≡ type_id kind) }
 {
     match Name::of(alloc, kind.type_id()) {

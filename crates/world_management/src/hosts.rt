@@ -1,21 +1,25 @@
 //! Hosts that stop and start, and members that change.
-ghost use Rattle.std.specs.Prelude.{◌≡◌, ℕ, ◌<◌, [], ◌∷◌, IfOk, Some, length, slice_get};
-ghost use Rattle.world_turns.specs.Answers.{Acts, Does};
-ghost use Rattle.world_management.specs.Hosts.{change_line, change_of, change_to, changes_members, crash_line, on_host, restart_line, show_line};
+ghost use Rattle.std.specs.Prelude.{◌≡◌, ℕ, ◌<◌, [], ◌∷◌, IfOk, OnOk, Some, length, slice_get};
+ghost use Rattle.world_turns.specs.Answers.{Acts, Does, DoesMore};
+ghost use Rattle.world_management.specs.Hosts.{change_line, change_of, change_to, changes_members, crash_line, fault_of, on_host, restart_line, show_line, with_reported};
 ghost use Rattle.world_turns.specs.Naming.{There, gone};
 ghost use Rattle.ft_base.specs.declared.limits.TheConstants.{HOST_LIMIT};
 ghost use Rattle.script_world.specs.Sound.{IsKeptWorld};
 ghost use Rattle.group_model.specs.Changes.{host_of_change};
 ghost use Rattle.script_groups.specs.Groups.{ScriptGroup as Group, placed};
 
+use crate::creating::type_name;
+use fault_notifier::FaultEvent;
 use fault_script::{LineFault, MemberChange};
-use ft_base::{HostNo, Name, NoMemory, Steps};
+use ft_base::{GroupId, HostNo, Name, NoMemory, Steps};
 use ft_report::{ReportLine, ReportLines};
 use group_model::{Change, Event, GroupAnswer};
+use iogr_reference::DOMAIN;
 use script_world::World;
+use shipped_servants::Kind;
 use std::alloc::Global;
 use std::sync::ledger::Ledger;
-use world_turns::{Named, gone, group_called, one_line, send_all, view_report};
+use world_turns::{Named, gone, group_called, one_line, push_view, send_all};
 
 fn change_of(change: MemberChange, host: HostNo) -> Change
     ensures { result ≡ change_of change host }
@@ -72,6 +76,75 @@ pub fn restart_line<L: Ledger>(
     Ok(report)
 }
 
+// The fault of a group's member, as subscribers are told of it.
+fn fault_of(alloc: Global, kind: Kind, group: GroupId, host: HostNo) -> Result<FaultEvent, NoMemory>
+    ensures { IfOk result (λ event. event ≡ fault_of kind group host) }
+{
+    let domain = match Name::of(alloc, DOMAIN.as_slice()) {
+        Ok(domain) => domain,
+        Err(_) => return Err(NoMemory),
+    };
+    let type_id = type_name(alloc, kind)?;
+    Ok(FaultEvent {
+        domain,
+        host,
+        type_id,
+        group,
+    })
+}
+
+// A report that was accepted is a fault; no other change is.
+fn tell_reported(
+    world: &mut World,
+    kind: Kind,
+    group: GroupId,
+    change: Change,
+) -> Result<(), NoMemory>
+    ensures { OnOk result (world.new ≡ with_reported world.old kind group change) }
+{
+    match change {
+        Change::Report(host) => {
+            let event = fault_of(world.alloc(), kind, group, host)?;
+            world.tell_fault(event)
+        }
+        _ => Ok(()),
+    }
+}
+
+/// The group at this place has its members changed, and all who are concerned are told; it is printed behind
+/// what the report has.
+pub fn push_change<L: Ledger>(
+    world: &mut World,
+    report: &mut ReportLines,
+    place: usize,
+    change: Change,
+    host: HostNo,
+    steps: &mut Steps<L>,
+) -> Result<(), NoMemory>
+    requires within { place < length world.old.groups }
+    requires host { host.0 < HOST_LIMIT }
+    requires named { host_of_change change ≡ host }
+    requires kept { IsKeptWorld world.old }
+    ensures did { (g : Group) → slice_get world.old.groups place ≡ Some g →
+        DoesMore (changes_members world.old (placed place g) change host) result report.old report.new world.new steps.old steps.new }
+    ensures kept { OnOk result (IsKeptWorld world.new) }
+{
+    let alloc = world.alloc();
+    let name = world.group(place).name().copy(alloc)?;
+    let group = world.group(place).id();
+    let kind = world.group(place).kind();
+    match world.event_at(place, Event::Manage(change), steps) {
+        GroupAnswer::Changed { view, out } => {
+            push_view(alloc, report, &name, view)?;
+            send_all(world, report, group, &name, host, out)?;
+            tell_reported(world, kind, group, change)
+        }
+        GroupAnswer::Refused(why) => report.push(ReportLine::Refused(why)),
+        GroupAnswer::NoMemory => Err(NoMemory),
+        _ => Ok(()),
+    }
+}
+
 // The group at this place has its members changed, and all who are concerned are told.
 pub(crate) fn change_members<L: Ledger>(
     world: &mut World,
@@ -87,19 +160,9 @@ pub(crate) fn change_members<L: Ledger>(
     ensures { (g : Group) → slice_get world.old.groups place ≡ Some g →
         Does (changes_members world.old (placed place g) change host) result world.new steps.old steps.new }
 {
-    let alloc = world.alloc();
-    let name = world.group(place).name().copy(alloc)?;
-    let group = world.group(place).id();
-    match world.event_at(place, Event::Manage(change), steps) {
-        GroupAnswer::Changed { view, out } => {
-            let mut report = view_report(alloc, &name, view)?;
-            send_all(world, &mut report, group, &name, host, out)?;
-            Ok(report)
-        }
-        GroupAnswer::Refused(why) => one_line(alloc, ReportLine::Refused(why)),
-        GroupAnswer::NoMemory => Err(NoMemory),
-        _ => Ok(ReportLines::new(alloc)),
-    }
+    let mut report = ReportLines::new(world.alloc());
+    push_change(world, &mut report, place, change, host, steps)?;
+    Ok(report)
 }
 
 // What a line about a host prints of a group that was deleted.

@@ -6,7 +6,7 @@ use Rattle.fault_script.specs.declared.lines.LineFault.TheVariants as faults
 use Rattle.fault_script.specs.declared.lines.LimitName.TheVariants as limits
 use Rattle.ft_report.specs.declared.reports.ReportLine.{ReportLine}
 use Rattle.script_world.specs.World.{World}
-use Rattle.world_turns.specs.Turns.{Effect, Turn, Goes, Refused}
+use Rattle.world_turns.specs.Turns.{Effect, Turn, Goes, Refused, saying}
 
 -- what was done: the world, the lines and the servant calls are those of an effect
 pub record HasDone (e : Effect) (report : List ReportLine) (new : World) (before now : ℕ) : Type 0 where
@@ -18,6 +18,11 @@ pub record HasDone (e : Effect) (report : List ReportLine) (new : World) (before
 abbrev pub Does : Effect → Result (List ReportLine) NoMemory → World → ℕ → ℕ → Type 0
 Does e (Ok report) new before now = HasDone e report new before now
 Does e (Err why) new before now = now ≤ before + e.calls
+
+-- the same, with its lines behind those of a report
+abbrev pub DoesMore : Effect → Result (Unit {0}) NoMemory → List ReportLine → List ReportLine → World → ℕ → ℕ → Type 0
+DoesMore e (Ok done) report more new before now = HasDone (saying report e) more new before now
+DoesMore e (Err why) report more new before now = now ≤ before + e.calls
 
 -- the calls of a turn
 abbrev pub calls_of : Turn → ℕ

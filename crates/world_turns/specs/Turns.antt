@@ -1,12 +1,13 @@
 -- What a line does: effects, refusals and totals.
-use Rattle.std.specs.Prelude.{ℕ, ◌+◌, ◌^◌, ◌++◌, Bool, nat_lt, if◌then◌else◌, List, [], ◌∷◌, length, Option, Some, None}
+use Rattle.std.specs.Prelude.{ℕ, ◌+◌, ◌++◌, Bool, nat_lt, if◌then◌else◌, List, [], ◌∷◌, length, Option, Some, None}
 use Rattle.fault_script.specs.declared.lines.LimitName.TheVariants as limits
 use Rattle.fault_script.specs.declared.lines.LineFault.{LineFault}
 use Rattle.fault_script.specs.declared.lines.LineFault.TheVariants.{Limit}
 use Rattle.ft_report.specs.declared.reports.ReportLine.{ReportLine}
 use Rattle.script_groups.specs.Groups.{entries_of}
 use Rattle.script_world.specs.World.{World}
-use Rattle.script_world.specs.declared.limits.TheConstants.{ENTRY_LIMIT, MESSAGE_LIMIT}
+use Rattle.fault_notifier.specs.declared.limits.TheConstants.{EVENT_LIMIT}
+use Rattle.script_world.specs.declared.limits.TheConstants.{BYTE_LIMIT, ENTRY_LIMIT, MESSAGE_LIMIT}
 
 -- what a line does: the world after it, its output lines and its servant calls; or its refusal, with the
 -- servant calls of its work
@@ -56,7 +57,7 @@ abbrev pub unless : Option LineFault → ℕ → Turn → Turn
 unless None calls turn = turn
 unless (Some why) calls turn = Refused why calls
 
--- ---- totals; so far no line sends bytes that count, or reports a fault
+-- ---- totals
 
 pub record Totals : Type 0 where
   pub entries : ℕ
@@ -65,12 +66,12 @@ pub record Totals : Type 0 where
   pub faults : ℕ
 
 abbrev pub totals_of : World → Totals
-totals_of w = record { entries = entries_of w.groups; messages = length w.messages; bytes = 0; faults = 0 }
+totals_of w = record { entries = entries_of w.groups; messages = length w.messages; bytes = w.bytes; faults = w.subscribers.faults }
 
 abbrev pub total_causes : Totals → List Cause
 total_causes t =
     cause (nat_lt ENTRY_LIMIT t.entries) (Limit limits.Entries) ∷ cause (nat_lt MESSAGE_LIMIT t.messages) (Limit limits.Messages)
-    ∷ cause (nat_lt (2 ^ 30) t.bytes) (Limit limits.Bytes) ∷ cause (nat_lt 262144 t.faults) (Limit limits.Faults) ∷ []
+    ∷ cause (nat_lt BYTE_LIMIT t.bytes) (Limit limits.Bytes) ∷ cause (nat_lt EVENT_LIMIT t.faults) (Limit limits.Faults) ∷ []
 
 -- a line after which a total is too great is refused, and its servant calls count
 abbrev pub judged : Turn → Turn

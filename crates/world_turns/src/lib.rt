@@ -7,5 +7,5 @@ mod naming;
 mod sending;
 
 pub use lines::one_line;
-pub use naming::{Named, gone, group_called, group_with_number};
-pub use sending::{send_all, view_report};
+pub use naming::{Named, gone, group_called, group_with_number, late_line};
+pub use sending::{push_view, send_all};

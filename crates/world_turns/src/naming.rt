@@ -3,11 +3,11 @@ ghost use Rattle.std.specs.Prelude.{◌≡◌, ℕ, ◌<◌, Some, length, slice
 ghost use Rattle.script_groups.specs.Groups.{ScriptGroup as Group, placed};
 ghost use Rattle.world_turns.specs.Answers.{Acts};
 ghost use Rattle.world_turns.specs.Turns.{goes};
-ghost use Rattle.world_turns.specs.Naming.{IsNamed, gone, group_called, group_with_number, naming_of};
+ghost use Rattle.world_turns.specs.Naming.{IsNamed, gone, group_called, group_with_number, late_line, naming_of};
 
 use crate::lines::one_line;
 use fault_script::LineFault;
-use ft_base::{GroupId, Name, NoMemory};
+use ft_base::{GroupId, HostNo, Name, NoMemory};
 use ft_report::{ReportLine, ReportLines};
 use group_model::ManageFault;
 use script_world::World;
@@ -51,6 +51,17 @@ pub fn group_with_number(world: &World, group: GroupId) -> Named
     match world.numbered_place(group) {
         None => Named::Never,
         Some(place) => standing(world, place),
+    }
+}
+
+/// What is printed where a message comes to a host for a group that was deleted.
+pub fn late_line(world: &World, number: u64, to: HostNo) -> ReportLine
+    ensures { result ≡ late_line world.now number to }
+{
+    if world.is_up(to) {
+        ReportLine::IgnoredDeleted { message: number }
+    } else {
+        ReportLine::Lost { message: number }
     }
 }
 

@@ -11,19 +11,22 @@ use group_model::{Inner, Out, OutList};
 use script_world::{Message, World};
 use std::alloc::Global;
 
-/// A view as it is printed.
-pub fn view_report(alloc: Global, name: &Name, view: View) -> Result<ReportLines, NoMemory>
-    ensures { IfOk result (λ report. report ≡ view_line name.now view ∷ []) }
+/// Prints a view.
+pub fn push_view(
+    alloc: Global,
+    report: &mut ReportLines,
+    name: &Name,
+    view: View,
+) -> Result<(), NoMemory>
+    ensures { OnOk result (report.new ≡ report.old ++ view_line name.now view ∷ []) }
 {
-    let mut report = ReportLines::new(alloc);
     let group = name.copy(alloc)?;
     report.push(ReportLine::View {
         group,
         version: view.version,
         members: view.members,
         primary: view.primary,
-    })?;
-    Ok(report)
+    })
 }
 
 // The line of a message to a host of a group.

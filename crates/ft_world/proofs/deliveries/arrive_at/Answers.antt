@@ -5,12 +5,15 @@ use Rattle.ft_base.specs.declared.numbers.HostNo.{HostNo}
 use Rattle.group_model.specs.declared.asking.Asked.{Asked}
 use Rattle.group_model.specs.declared.events.Event.TheVariants as events
 use Rattle.group_model.specs.Sending.{sent_by}
+use Rattle.script_groups.specs.Acting.{IsSoundGroup}
 use Rattle.script_world.specs.Sound.{IsOnItsWay}
 use Rattle.script_world.specs.World.{carried, host_clock}
 use Rattle.world_turns.specs.Answers.{HasDone}
 use Rattle.world_turns.specs.Turns.{Effect}
 use Rattle.ft_world.proofs.ArriveLemmas.{asker_is, is_made, nobody_asks, request_done, short_request}
 use Rattle.ft_world.proofs.CallLemmas.{some_at}
+use Rattle.ft_world.proofs.PlaceLemmas.{same_some}
+use Rattle.ft_world.proofs.ReplyLemmas.{reply_in_form}
 use Rattle.ft_world.proofs.deliveries.arrive_at.Goals as goal
 
 pub returns-in_default : goal.returns-in_default
@@ -25,11 +28,19 @@ pub answered-requires : goal.answered-requires
 answered-requires g c =
     let at = some_at c.args.world.now.groups c.args.place c.requires.within in
     let group = at.0 in
+    let event = events.Request c.args.host c.host_clock.result c.in_ok-asked_by.field-0 c.args.stop in
+    let is = ap (λ (n : ℕ). events.Request c.args.host (record { 0 = n }) c.in_ok-asked_by.field-0 c.args.stop) c.host_clock.ensures
+    ∙ ap (λ (x : Asked). events.Request c.args.host (record { 0 = host_clock c.args.world.now c.args.host.0 }) x c.args.stop) c.in_ok-asked_by.ensures.asked in
     let whose = asker_is c.args.world.now c.args.number c.args.client c.args.host c.args.attempt c.args.stop c.args.place group c.in-Some.asker
     (sym (c.in_ok-asker.ensures group at.1) ∙ c.in-Some.is) in
     record {
       kept = is_made c.event_at.result c.in_default-event_at.not-NoMemory c.event_at.ensures.kept;
       host = subst (λ (h : HostNo). h.0 < HOST_LIMIT) (sym whose.0) c.requires.host;
+      form = reply_in_form c.args.world.now c.event_at.new.self c.args.client c.args.host c.args.attempt c.args.stop c.args.place group c.in-Some.asker
+          (sym (c.in_ok-asker.ensures group at.1) ∙ c.in-Some.is) c.answers_are_in_form.ensures event is at.1 c.event_at.result c.in_default-event_at.not-NoMemory
+          c.args.steps.now c.event_at.new.steps c.event_at.ensures.turn
+          (subst IsSoundGroup (same_some c.group.result.now group (sym c.group.ensures ∙ at.1)) c.is_sound.ensures)
+          (record { host = c.requires.host; brought = c.in_ok-asked_by.ensures.short });
       sent = subst (λ id. AllByRecursion (λ o. IsOnItsWay c.event_at.new.self.groups (carried id o)) (sent_by c.event_at.result)) (sym whose.1)
           (c.event_at.ensures.sent group at.1);
     }

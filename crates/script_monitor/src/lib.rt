@@ -1,0 +1,10 @@
+//! The monitor of a script: the members that it watches, and all that it heard of them.
+#![tactic(auto)]
+
+mod happenings;
+mod histories;
+mod monitors;
+#[cfg(test)]
+mod tests;
+
+pub use monitors::ScriptMonitor;

@@ -1,0 +1,6 @@
+pub mod Seeing
+pub mod Changing
+pub mod Counting
+pub mod Judging
+pub mod Finding
+pub mod Keeping

@@ -1,0 +1,4 @@
+pub mod Subscribers
+pub mod Calls
+pub mod Firsts
+pub mod Pictures

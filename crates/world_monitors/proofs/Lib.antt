@@ -1,0 +1,2 @@
+pub mod PollingLemmas
+pub mod SweepingLemmas
