@@ -14,8 +14,6 @@ mod laws;
 mod orders;
 mod readers;
 mod tagged;
-#[cfg(test)]
-mod tests;
 mod values;
 mod writers;
 

@@ -9,8 +9,6 @@ mod clients;
 mod laws;
 mod limits;
 mod meanings;
-#[cfg(test)]
-mod tests;
 
 pub use answers::{Act, End, Heard};
 pub use clients::ClientCore;

@@ -19,6 +19,3 @@ pub use lines::{
     Criteria, HostNumbers, KindWord, Level, LimitName, Line, LineFault, MemberChange, Words,
 };
 pub use reading::read_line;
-
-#[cfg(test)]
-mod tests;

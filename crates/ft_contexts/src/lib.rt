@@ -13,6 +13,3 @@ pub use faults::ContextFault;
 pub use finding::find_contexts;
 pub use lists::{Context, Contexts, FT_GROUP_VERSION, FT_REQUEST, FtContexts};
 pub use writing::write_contexts;
-
-#[cfg(test)]
-mod tests;

@@ -6,19 +6,9 @@ mod outcomes;
 mod parts;
 mod rendering;
 mod reports;
+mod showing;
 mod words;
 
 pub use outcomes::{ReportOutcome, Worth, worth_of};
 pub use rendering::write_line;
 pub use reports::{CallEnd, ReportLine, ReportLines, Role, SettingFault, Standing, SubscribeFault};
-
-#[cfg(test)]
-mod clients_tests;
-#[cfg(test)]
-mod monitors_tests;
-#[cfg(test)]
-mod settings_tests;
-#[cfg(test)]
-mod tests;
-#[cfg(test)]
-mod worth_tests;

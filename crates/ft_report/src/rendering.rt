@@ -6,12 +6,15 @@ ghost use Rattle.ft_report.specs.Report.{between_hosts, report_text};
 use crate::outcomes::ReportOutcome;
 use crate::parts::{
     ignored_bytes, push_decision, push_end, push_outcome, push_setting, push_subscribe,
-    refusal_bytes, role_bytes, standing_bytes, why_bytes, with_version,
+    refusal_bytes, why_bytes, with_version,
 };
-use crate::reports::{CallEnd, ReportLine, Role, SettingFault, Standing, SubscribeFault};
+use crate::reports::{CallEnd, ReportLine, SettingFault, SubscribeFault};
+use crate::showing::{
+    locations_line, member_line, member_ref_line, no_group_line, property_line, ref_line, show_line,
+};
 use crate::words::Word::{Fixed, Host, Location, Made, Number, Text};
 use crate::words::{Word, hosts, octets, phrase, push_line, push_phrase};
-use ft_base::{Bytes, Decision, GroupId, HostNo, Ignored, Members, Name, NoMemory, Tick, Version};
+use ft_base::{Bytes, Decision, GroupId, HostNo, Ignored, Members, Name, NoMemory, Version};
 use giop_messages::Why;
 use group_model::ManageFault;
 use std::alloc::Global;
@@ -444,131 +447,6 @@ fn fault_line<'a>(
             Number(id.0),
             Text(group.bytes()),
         ],
-    )
-}
-
-fn property_line<'a>(
-    text: &mut Vec<u8>,
-    alloc: Global,
-    name: &'a Name,
-    value: &'a Bytes,
-) -> Result<(), NoMemory>
-    ensures { OnOk result (text.new.items ≡ text.old.items ++ report_text (ReportLine.Property name.now value.now)) }
-{
-    push_line(
-        text,
-        &[Fixed(b"property"), Text(name.bytes()), Text(value.bytes())],
-    )
-}
-
-fn show_line(
-    text: &mut Vec<u8>,
-    alloc: Global,
-    group: &Name,
-    version: Version,
-    entries: u32,
-    mark: u32,
-    time: Tick,
-) -> Result<(), NoMemory>
-    ensures { OnOk result (text.new.items ≡ text.old.items ++ report_text (ReportLine.Show group.now version entries mark time)) }
-{
-    push_line(
-        text,
-        &[
-            Fixed(b"show"),
-            Text(group.bytes()),
-            Fixed(b"view"),
-            Number(u64::from(version.0)),
-            Fixed(b"entries"),
-            Number(u64::from(entries)),
-            Fixed(b"mark"),
-            Number(u64::from(mark)),
-            Fixed(b"time"),
-            Number(time.0),
-        ],
-    )
-}
-
-fn member_line(
-    text: &mut Vec<u8>,
-    alloc: Global,
-    host: HostNo,
-    role: Role,
-    standing: &Standing,
-) -> Result<(), NoMemory>
-    ensures { OnOk result (text.new.items ≡ text.old.items ++ report_text (ReportLine.Member host role standing.now)) }
-{
-    let standing = standing_bytes(alloc, standing)?;
-    push_line(
-        text,
-        &[
-            Fixed(b"member"),
-            Number(u64::from(host.0)),
-            Fixed(role_bytes(role)),
-            Made(standing.bytes()),
-        ],
-    )
-}
-
-fn locations_line(
-    text: &mut Vec<u8>,
-    alloc: Global,
-    group: &Name,
-    members: &Members,
-) -> Result<(), NoMemory>
-    ensures { OnOk result (text.new.items ≡ text.old.items ++ report_text (ReportLine.Locations group.now members.now)) }
-{
-    let members = hosts(alloc, members)?;
-    push_line(
-        text,
-        &[
-            Fixed(b"locations"),
-            Text(group.bytes()),
-            Made(members.bytes()),
-        ],
-    )
-}
-
-fn ref_line<'a>(
-    text: &mut Vec<u8>,
-    alloc: Global,
-    group: &'a Name,
-    reference: &'a Bytes,
-) -> Result<(), NoMemory>
-    ensures { OnOk result (text.new.items ≡ text.old.items ++ report_text (ReportLine.Ref group.now reference.now)) }
-{
-    push_line(
-        text,
-        &[Fixed(b"ref"), Text(group.bytes()), Text(reference.bytes())],
-    )
-}
-
-fn member_ref_line<'a>(
-    text: &mut Vec<u8>,
-    alloc: Global,
-    group: &'a Name,
-    host: HostNo,
-    reference: &'a Bytes,
-) -> Result<(), NoMemory>
-    ensures { OnOk result (text.new.items ≡ text.old.items ++ report_text (ReportLine.MemberRef group.now host reference.now)) }
-{
-    push_line(
-        text,
-        &[
-            Fixed(b"member-ref"),
-            Text(group.bytes()),
-            Number(u64::from(host.0)),
-            Text(reference.bytes()),
-        ],
-    )
-}
-
-fn no_group_line(text: &mut Vec<u8>, alloc: Global, host: HostNo) -> Result<(), NoMemory>
-    ensures { OnOk result (text.new.items ≡ text.old.items ++ report_text (ReportLine.NoGroup host)) }
-{
-    push_line(
-        text,
-        &[Fixed(b"at"), Number(u64::from(host.0)), Fixed(b"- nogroup")],
     )
 }
 

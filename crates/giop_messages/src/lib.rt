@@ -15,8 +15,6 @@ mod reading;
 mod replies;
 mod requests;
 mod statuses;
-#[cfg(test)]
-mod tests;
 mod writing;
 
 pub use faults::{Malformed, ReadFault, Why};

@@ -12,8 +12,6 @@ mod fronts;
 mod laws;
 mod sessions;
 mod tallies;
-#[cfg(test)]
-mod tests;
 
 pub use faults::StreamFault;
 pub use framers::Framer;

@@ -6,8 +6,6 @@ mod answers;
 mod bodies;
 mod limits;
 mod replies;
-#[cfg(test)]
-mod tests;
 
 pub use answers::PortAnswer;
 pub use limits::{BODY_LIMIT, PART_LIMIT};

@@ -13,8 +13,6 @@ mod lists;
 mod reading;
 mod references;
 mod tags;
-#[cfg(test)]
-mod tests;
 mod texts;
 mod views;
 mod writing;

@@ -7,8 +7,6 @@
 
 mod reading;
 mod records;
-#[cfg(test)]
-mod tests;
 mod writing;
 
 pub use reading::record_in;

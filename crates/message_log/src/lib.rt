@@ -8,8 +8,6 @@ mod laws;
 mod logs;
 mod opening;
 mod reservations;
-#[cfg(test)]
-mod tests;
 mod tidying;
 
 pub use answers::{Admit, Appended, LogFault, ReopenFault};

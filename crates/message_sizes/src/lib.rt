@@ -6,8 +6,6 @@ mod answers;
 mod laws;
 mod places;
 mod requests;
-#[cfg(test)]
-mod tests;
 
 pub use answers::{fault_size, forward_size, outcome_size};
 pub use laws::replies_are_as_long;

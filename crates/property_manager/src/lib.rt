@@ -17,8 +17,6 @@ mod settings;
 mod standings;
 mod styles;
 mod tables;
-#[cfg(test)]
-mod tests;
 
 pub use effective::effective_in;
 pub use faults::PropertyFault;

@@ -7,6 +7,3 @@ mod runs;
 
 pub use playing::Script;
 pub use runs::ftc_run;
-
-#[cfg(test)]
-mod rows;

@@ -9,8 +9,6 @@ mod histories;
 mod laws;
 mod references;
 mod telling;
-#[cfg(test)]
-mod tests;
 
 pub use answers::{Attempt, Call, Told};
 pub use clients::ScriptClient;

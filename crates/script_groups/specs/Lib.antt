@@ -6,4 +6,3 @@ pub mod Showing
 pub mod References
 pub mod Reading
 pub mod Laws
-pub mod Trying

@@ -7,8 +7,6 @@ mod laws;
 mod reading;
 mod references;
 mod showing;
-#[cfg(test)]
-mod tests;
 
 pub use groups::ScriptGroup;
 pub use laws::{

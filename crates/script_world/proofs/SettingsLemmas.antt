@@ -8,7 +8,6 @@ use Rattle.std.proofs.lemmas.Cmp.{nat_eq_equiv}
 use Rattle.std.proofs.lemmas.Map.{lookup-remove_entry}
 use Rattle.std.proofs.lemmas.Map.Keys.{IsDistinct-cons, IsDistinct-head, IsDistinct-tail}
 use Rattle.property_manager.specs.declared.effective.Levels.{Levels}
-use Rattle.property_manager.specs.Judging.{first_place, refusal}
 use Rattle.property_manager.specs.Groups.{dropped, group_of, put_group}
 
 -- ---- by number
@@ -70,10 +69,3 @@ once_dropped (g ∷ gs) k once =
     let rest = IsDistinct-tail nat_eq g.0 (keys_of gs) once in
     cond_both (nat_eq k g.0) gs (g ∷ dropped gs k) (λ l. IsDistinct nat_eq (keys_of l)) (λ _. rest)
     (λ _. IsDistinct-cons nat_eq g.0 (keys_of (dropped gs k)) (others_dropped gs g.0 k (IsDistinct-head nat_eq g.0 (keys_of gs) once)) (once_dropped gs k rest))
-
--- ---- nothing at all
-
--- an empty list is never refused
-pub nothing_refused : (runs : Bool) → refusal runs [] ≡ None
-unfolding first_place
-nothing_refused runs = refl

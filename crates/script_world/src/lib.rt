@@ -8,8 +8,6 @@ mod hosts;
 mod limits;
 mod messages;
 mod settings;
-#[cfg(test)]
-mod tests;
 mod worlds;
 
 pub use hosts::HostState;

@@ -12,8 +12,3 @@ pub use answers::Answer;
 pub use faults::{Completed, SysFault, SysKind};
 pub use reading::{SysReadFault, read_fault};
 pub use writing::write_fault;
-
-#[cfg(test)]
-mod body_tests;
-#[cfg(test)]
-mod tests;

@@ -1,0 +1,7 @@
+//! Rows of clients that try again.
+#![tactic(auto)]
+
+#[cfg(test)]
+mod clients;
+#[cfg(test)]
+mod retries;

@@ -1,5 +1,0 @@
-use Rattle.std.proofs.Common.{length}
-use Rattle.giop_stream.proofs.tests.serve.Given as goal
-
-abbrev pub decreases-messages : goal.decreases-messages
-decreases-messages l = length l.session.frames.rest

@@ -1,0 +1,5 @@
+use Rattle.run_rows.proofs.runs.faults_and_words_have_their_status.Given as goal
+
+-- the ledger that the blank counter begins
+abbrev pub ghosts-each_end : goal.ghosts-each_end
+ghosts-each_end a b = record { name = b.blank.name; parts = b.blank.parts }
