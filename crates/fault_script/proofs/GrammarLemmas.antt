@@ -11,8 +11,8 @@ use Rattle.ft_base.specs.declared.views.Style.TheVariants as styles
 use Rattle.fault_script.specs.Words.{is_comment, is_script_name, is_operation, only}
 use Rattle.fault_script.specs.Numbers.{number, capped, host_number, host_numbers, from_one, positive_number}
 use Rattle.fault_script.specs.Arguments.{octets_of}
-use Rattle.fault_script.specs.Forms.{is_unbuilt, change_of, watching, making, verb, only_host, hosts_of, hosts_line, kind_of, style_of, built_group, group_of, group_line, client_line, call_line, bind_line, stop_named, stop_of, deliver_of, deliver_line, tick_of, tick_line, show_line, asked_of, locations_line, id_line, ref_line, timeout_line, member_at, member_line, inject_of, inject_line, change_at, change_line, crash_of, restart_of, grow_at, grow_line, delete_line, poll_line, sweep_line, subscribe_line, unsubscribe_line, pull_line, line_of_verb, line_of, as_some, parse_words}
-use Rattle.fault_script.specs.Grammar.{Spells, IsNumber, kind_word, stop_words, change_word}
+use Rattle.fault_script.specs.Forms.{is_unbuilt, change_of, watching, making, verb, only_host, hosts_of, hosts_line, kind_of, style_of, group_of, group_line, client_line, call_line, bind_line, stop_named, stop_of, deliver_of, deliver_line, tick_of, tick_line, show_line, asked_of, locations_line, id_line, ref_line, timeout_line, member_at, member_line, inject_of, inject_line, change_at, change_line, crash_of, restart_of, grow_at, grow_line, delete_line, poll_line, sweep_line, subscribe_line, unsubscribe_line, pull_line, checkpoint_line, update_line, line_of_verb, line_of, as_some, parse_words}
+use Rattle.fault_script.specs.Grammar.{Spells, IsNumber, kind_word, style_word, stop_words, change_word}
 use Rattle.fault_script.proofs.FormLemmas.{guarded, guarded_not, same_text, text_case, kind_named, host_some, only_host_some}
 use Rattle.fault_script.proofs.EachLemmas.{each_apart}
 use Rattle.fault_script.proofs.SettingLemmas.{create_spelled, set_spelled, unset_spelled, get_spelled}
@@ -58,35 +58,11 @@ hosts_spelled (word ∷ []) line e = hosts_found word (positive_number word) lin
 hosts_spelled (word ∷ next ∷ rest) line e = cc
 
 -- group
-style_word : Style → List ℕ
-style_word styles.Cold = codes "cold"
-style_word styles.Warm = codes "warm"
-style_word styles.Active = codes "active"
-
 style_named : (word : List ℕ) (style : Style) → style_of word ≡ Some style → word ≡ style_word style
-unfolding style_word
 style_named word style =
     text_case (λ w. w) style_word (bytes_eq word (codes "cold")) word (codes "cold") styles.Cold style _ refl refl
     (text_case (λ w. w) style_word (bytes_eq word (codes "warm")) word (codes "warm") styles.Warm style _ refl refl
     (text_case (λ w. w) style_word (bytes_eq word (codes "active")) word (codes "active") styles.Active style None refl refl (λ e. cc)))
-
-cold_found : (name kind style : List ℕ) (digits : List (List ℕ)) (k : KindWord) (members : List ℕ) → is_script_name name ≡ true → kind ≡ kind_word k
-    → style ≡ codes "cold" → host_numbers digits ≡ Some members → Spells (codes "group" ∷ name ∷ kind ∷ style ∷ digits) (lines.Group name k styles.Cold members)
-cold_found name kind style digits k members named kind_is style_is read =
-    let words_are = ap (λ (w : List ℕ). codes "group" ∷ name ∷ w ∷ style ∷ digits) kind_is
-    ∙ ap (λ (w : List ℕ). codes "group" ∷ name ∷ kind_word k ∷ w ∷ digits) style_is in
-    (digits, words_are, named, refl, each_apart host_number IsNumber host_some digits members read)
-
-built_found : (name kind style : List ℕ) (digits : List (List ℕ)) (k : KindWord) (s : Style) (members : List ℕ) (line : Line) → is_script_name name ≡ true
-    → kind ≡ kind_word k → style ≡ style_word s → host_numbers digits ≡ Some members → built_group name k s members ≡ Ok line
-    → Spells (codes "group" ∷ name ∷ kind ∷ style ∷ digits) line
-unfolding style_word
-built_found name kind style digits k styles.Cold members line named kind_is style_is read e =
-    let same : lines.Group name k styles.Cold members ≡ line = cc in
-    subst (λ (l : Line). Spells (codes "group" ∷ name ∷ kind ∷ style ∷ digits) l) same
-    (cold_found name kind style digits k members named kind_is style_is read)
-built_found name kind style digits k styles.Warm members line named kind_is style_is read e = cc
-built_found name kind style digits k styles.Active members line named kind_is style_is read e = cc
 
 group_found : (name kind style : List ℕ) (digits : List (List ℕ)) (k : Option KindWord) (s : Option Style) (members : Option (List ℕ)) (line : Line)
     → is_script_name name ≡ true → kind_of kind ≡ k → style_of style ≡ s → host_numbers digits ≡ members → group_of name k s members ≡ Ok line
@@ -95,7 +71,11 @@ group_found name kind style digits None s members line named a b c e = cc
 group_found name kind style digits (Some k) None members line named a b c e = cc
 group_found name kind style digits (Some k) (Some s) None line named a b c e = cc
 group_found name kind style digits (Some k) (Some s) (Some members) line named a b c e =
-    built_found name kind style digits k s members line named (kind_named kind k a) (style_named style s b) c e
+    let same : lines.Group name k s members ≡ line = cc in
+    let words_are = ap (λ (w : List ℕ). codes "group" ∷ name ∷ w ∷ style ∷ digits) (kind_named kind k a)
+    ∙ ap (λ (w : List ℕ). codes "group" ∷ name ∷ kind_word k ∷ w ∷ digits) (style_named style s b) in
+    subst (λ (l : Line). Spells (codes "group" ∷ name ∷ kind ∷ style ∷ digits) l) same
+    (digits, words_are, named, each_apart host_number IsNumber host_some digits members c)
 
 group_spelled : (rest : List (List ℕ)) (line : Line) → group_line rest ≡ Ok line → Spells (codes "group" ∷ rest) line
 group_spelled [] line e = cc
@@ -310,6 +290,13 @@ unsubscribe_spelled = asked_spelled (codes "unsubscribe") (λ name. lines.Unsubs
 pull_spelled : (rest : List (List ℕ)) (line : Line) → pull_line rest ≡ Ok line → Spells (codes "pull" ∷ rest) line
 pull_spelled = asked_spelled (codes "pull") (λ name. lines.Pull name) (λ name named. (refl, named))
 
+-- states and updates
+checkpoint_spelled : (rest : List (List ℕ)) (line : Line) → checkpoint_line rest ≡ Ok line → Spells (codes "checkpoint" ∷ rest) line
+checkpoint_spelled = asked_spelled (codes "checkpoint") (λ name. lines.Checkpoint name) (λ name named. (refl, named))
+
+update_spelled : (rest : List (List ℕ)) (line : Line) → update_line rest ≡ Ok line → Spells (codes "update" ∷ rest) line
+update_spelled = asked_spelled (codes "update") (λ name. lines.Update name) (λ name named. (refl, named))
+
 subscribe_spelled : (rest : List (List ℕ)) (line : Line) → subscribe_line rest ≡ Ok line → Spells (codes "subscribe" ∷ rest) line
 subscribe_spelled [] line e = cc
 subscribe_spelled (subscriber ∷ []) line e = cc
@@ -349,6 +336,8 @@ spelling verbs.Sweep = codes "sweep"
 spelling verbs.Subscribe = codes "subscribe"
 spelling verbs.Unsubscribe = codes "unsubscribe"
 spelling verbs.Pull = codes "pull"
+spelling verbs.Checkpoint = codes "checkpoint"
+spelling verbs.Update = codes "update"
 
 change_named : (word : List ℕ) (change : MemberChange) → change_of word ≡ Some change → word ≡ change_word change
 change_named word change =
@@ -373,7 +362,9 @@ watching_spelled first found =
     (text_case (λ w. w) spelling (bytes_eq first (codes "subscribe")) first (codes "subscribe") verbs.Subscribe found _ refl refl
     (text_case (λ w. w) spelling (bytes_eq first (codes "unsubscribe")) first (codes "unsubscribe") verbs.Unsubscribe found _ refl refl
     (text_case (λ w. w) spelling (bytes_eq first (codes "pull")) first (codes "pull") verbs.Pull found _ refl refl
-    (change_verb first (change_of first) found refl)))))
+    (text_case (λ w. w) spelling (bytes_eq first (codes "checkpoint")) first (codes "checkpoint") verbs.Checkpoint found _ refl refl
+    (text_case (λ w. w) spelling (bytes_eq first (codes "update")) first (codes "update") verbs.Update found _ refl refl
+    (change_verb first (change_of first) found refl)))))))
 
 making_spelled : (first : List ℕ) (found : Verb) → making first ≡ Some found → first ≡ spelling found
 unfolding spelling
@@ -466,6 +457,10 @@ verb_line_spelled (Some verbs.Unsubscribe) first rest line v e =
     subst (λ (w : List ℕ). Spells (w ∷ rest) line) (sym (verb_spelled first verbs.Unsubscribe v)) (unsubscribe_spelled rest line e)
 verb_line_spelled (Some verbs.Pull) first rest line v e =
     subst (λ (w : List ℕ). Spells (w ∷ rest) line) (sym (verb_spelled first verbs.Pull v)) (pull_spelled rest line e)
+verb_line_spelled (Some verbs.Checkpoint) first rest line v e =
+    subst (λ (w : List ℕ). Spells (w ∷ rest) line) (sym (verb_spelled first verbs.Checkpoint v)) (checkpoint_spelled rest line e)
+verb_line_spelled (Some verbs.Update) first rest line v e =
+    subst (λ (w : List ℕ). Spells (w ∷ rest) line) (sym (verb_spelled first verbs.Update v)) (update_spelled rest line e)
 
 as_some_line : (read : Result Line LineFault) (line : Line) → as_some read ≡ Ok (Some line) → read ≡ Ok line
 as_some_line (Ok other) line e = cc

@@ -10,8 +10,8 @@ use Rattle.ft_base.specs.declared.views.Style.TheVariants as styles
 use Rattle.fault_script.specs.Words.{words, is_script_name, is_operation}
 use Rattle.fault_script.specs.Numbers.{number, capped, host_number, host_numbers, from_one, positive_number}
 use Rattle.fault_script.specs.Arguments.{octets_of}
-use Rattle.fault_script.specs.Forms.{hosts_of, group_of, group_line, call_line, bind_line, stop_of, deliver_of, tick_of, tick_line, member_at, member_line, inject_of, inject_line, change_at, change_line, crash_of, restart_of, grow_at, grow_line, as_some, parse_words, parse}
-use Rattle.fault_script.specs.Grammar.{Spells, IsNumber, kind_word, stop_words, change_word}
+use Rattle.fault_script.specs.Forms.{hosts_of, style_of, group_of, group_line, call_line, bind_line, stop_of, deliver_of, tick_of, tick_line, member_at, member_line, inject_of, inject_line, change_at, change_line, crash_of, restart_of, grow_at, grow_line, as_some, parse_words, parse}
+use Rattle.fault_script.specs.Grammar.{Spells, IsNumber, kind_word, style_word, stop_words, change_word}
 use Rattle.fault_script.proofs.FormLemmas.{kind_read, host_read}
 use Rattle.fault_script.proofs.EachLemmas.{each_read}
 use Rattle.fault_script.proofs.SettingLemmas.{create_read, set_read, set_group_read, unset_read, get_read, get_group_read}
@@ -30,12 +30,17 @@ positive_read word kept is_kept from =
     let not_zero : (is_kept.0 == 0) ≡ false = grind (arith, nat_tests) in
     ap (option_and_then from_one) is_kept.1 ∙ rw not_zero (ap Some (sym is_kept.2))
 
-group_read : (name : List ℕ) (kind : KindWord) (style : Style) (digits : List (List ℕ)) (members : List ℕ) → is_script_name name ≡ true → style ≡ styles.Cold
-    → AllZip IsNumber digits members → group_line (name ∷ kind_word kind ∷ codes "cold" ∷ digits) ≡ Ok (lines.Group name kind style members)
-group_read name kind style digits members named cold all =
-    rw named (ap (λ (k : Option KindWord). group_of name k (Some styles.Cold) (host_numbers digits)) (kind_read kind)
-    ∙ ap (group_of name (Some kind) (Some styles.Cold)) (each_read host_number IsNumber host_read digits members all)
-    ∙ ap (λ (s : Style). Ok (lines.Group name kind s members)) (sym cold))
+style_read : (style : Style) → style_of (style_word style) ≡ Some style
+style_read styles.Cold = refl
+style_read styles.Warm = refl
+style_read styles.Active = refl
+
+group_read : (name : List ℕ) (kind : KindWord) (style : Style) (digits : List (List ℕ)) (members : List ℕ) → is_script_name name ≡ true
+    → AllZip IsNumber digits members → group_line (name ∷ kind_word kind ∷ style_word style ∷ digits) ≡ Ok (lines.Group name kind style members)
+group_read name kind style digits members named all =
+    rw named (ap (λ (k : Option KindWord). group_of name k (style_of (style_word style)) (host_numbers digits)) (kind_read kind)
+    ∙ ap (λ (s : Option Style). group_of name (Some kind) s (host_numbers digits)) (style_read style)
+    ∙ ap (group_of name (Some kind) (Some style)) (each_read host_number IsNumber host_read digits members all))
 
 stop_read : (stop : Stop) → stop_of (stop_words stop) ≡ Some stop
 stop_read stops.Never = refl
@@ -85,7 +90,7 @@ spelled_is_read ws (lines.Hosts count) s =
     (ap (λ (n : Option ℕ). as_some (hosts_of n)) (positive_read s.0 count s.2 s.3))
 spelled_is_read ws (lines.Group name kind style members) s =
     subst (λ (w : List (List ℕ)). parse_words w ≡ Ok (Some (lines.Group name kind style members))) (sym s.1)
-    (ap as_some (group_read name kind style s.0 members s.2 s.3 s.4))
+    (ap as_some (group_read name kind style s.0 members s.2 s.3))
 spelled_is_read ws (lines.Client name) s =
     subst (λ (w : List (List ℕ)). parse_words w ≡ Ok (Some (lines.Client name))) (sym s.0) (rw s.1 refl)
 spelled_is_read ws (lines.Call client group op rest) s =
@@ -127,13 +132,13 @@ spelled_is_read ws (lines.Restart host) s =
     (ap (λ (n : Option ℕ). as_some (restart_of n)) (host_read s.0 host s.2))
 spelled_is_read ws (lines.Create name kind criteria) s =
     subst (λ (w : List (List ℕ)). parse_words w ≡ Ok (Some (lines.Create name kind criteria))) (sym s.1)
-    (ap as_some (create_read name kind s.0 criteria s.2 s.3 s.4))
+    (ap as_some (create_read name kind s.0 criteria s.2 s.3))
 spelled_is_read ws (lines.Set level property) s =
     subst (λ (w : List (List ℕ)). parse_words w ≡ Ok (Some (lines.Set level property))) (sym s.0)
-    (ap as_some (set_read level property s.1 s.2))
+    (ap as_some (set_read level property s.1))
 spelled_is_read ws (lines.SetGroup group property) s =
     subst (λ (w : List (List ℕ)). parse_words w ≡ Ok (Some (lines.SetGroup group property))) (sym s.0)
-    (ap as_some (set_group_read group property s.1 s.2 s.3))
+    (ap as_some (set_group_read group property s.1 s.2))
 spelled_is_read ws (lines.Unset level name) s =
     subst (λ (w : List (List ℕ)). parse_words w ≡ Ok (Some (lines.Unset level name))) (sym s.0)
     (ap as_some (unset_read level name s.1))
@@ -158,6 +163,10 @@ spelled_is_read ws (lines.Unsubscribe name) s =
     subst (λ (w : List (List ℕ)). parse_words w ≡ Ok (Some (lines.Unsubscribe name))) (sym s.0) (rw s.1 refl)
 spelled_is_read ws (lines.Pull name) s =
     subst (λ (w : List (List ℕ)). parse_words w ≡ Ok (Some (lines.Pull name))) (sym s.0) (rw s.1 refl)
+spelled_is_read ws (lines.Checkpoint name) s =
+    subst (λ (w : List (List ℕ)). parse_words w ≡ Ok (Some (lines.Checkpoint name))) (sym s.0) (rw s.1 refl)
+spelled_is_read ws (lines.Update name) s =
+    subst (λ (w : List (List ℕ)). parse_words w ≡ Ok (Some (lines.Update name))) (sym s.0) (rw s.1 refl)
 
 -- a line that is too long is refused, whatever stands in it
 pub parse-long : (text : List ℕ) → 4096 < length text → parse text ≡ Err (Limit limits.Line)

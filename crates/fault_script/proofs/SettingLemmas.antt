@@ -1,19 +1,17 @@
 -- Lines of properties: what is read is of its form, and what is of a form is read.
 use Rattle.std.proofs.Common.{◌≡◌, ℕ, ◌+◌, ◌==◌, ◌∙◌, Bool, true, false, suc, List, [], ◌∷◌, ◌++◌, length, take, drop, nat_lt, Option, Some, None, Ok, arith, sym, ap, subst, cond, refl}
 use Rattle.std.specs.Prelude.{codes, option_map}
-use Rattle.std.specs.List.{All, AllZip, list_any, position_or_len}
+use Rattle.std.specs.List.{AllZip, position_or_len}
 use Rattle.std.specs.Str.{bytes_eq}
-use Rattle.std.proofs.lemmas.Bool.{or_parts, eqb-true}
+use Rattle.std.proofs.lemmas.Bool.{eqb-true}
 use Rattle.std.proofs.lemmas.Bool.Decides.{nat_tests}
-use Rattle.std.proofs.lemmas.List.Elements.{All-nil, All-cons}
-use Rattle.std.proofs.lemmas.List.Folds.{list_any_none}
 use Rattle.std.proofs.Math.Seq.{take-append_seam, drop-append-add}
 use Rattle.property_manager.specs.declared.settings.Property.{Property}
 use Rattle.fault_script.specs.Words.{is_script_name, each, only}
-use Rattle.fault_script.specs.Properties.{is_property_name, property_of, property_said, equals_place, divided_at, criterion, is_later}
+use Rattle.fault_script.specs.Properties.{is_property_name, property_of, property_said, equals_place, divided_at, criterion}
 use Rattle.fault_script.specs.Forms.{kind_of, created, create_of, create_line, LevelWords, type_level, level_of, set_of, set_at, set_group, set_line, named_of, unset_at, unset_line, get_at, get_group, get_line}
-use Rattle.fault_script.specs.Grammar.{Spells, IsCriterion, IsBuilt, level_words, kind_word}
-use Rattle.fault_script.proofs.FormLemmas.{guarded, guarded_not, same_text, mapped, chosen, kind_named, kind_read}
+use Rattle.fault_script.specs.Grammar.{Spells, IsCriterion, level_words, kind_word}
+use Rattle.fault_script.proofs.FormLemmas.{guarded, same_text, mapped, chosen, kind_named, kind_read}
 use Rattle.fault_script.proofs.EachLemmas.{each_apart, each_read}
 use Rattle.fault_script.specs.declared.lines.KindWord.{KindWord}
 use Rattle.fault_script.specs.declared.lines.KindWord.TheVariants as kinds
@@ -21,7 +19,7 @@ use Rattle.fault_script.specs.declared.lines.Level.{Level}
 use Rattle.fault_script.specs.declared.lines.Level.TheVariants as levels
 use Rattle.fault_script.specs.declared.lines.Line.{Line}
 use Rattle.fault_script.specs.declared.lines.Line.TheVariants as lines
-use Rattle.fault_script.specs.declared.lines.LineFault.TheVariants.{Later, Syntax}
+use Rattle.fault_script.specs.declared.lines.LineFault.TheVariants.{Syntax}
 
 -- the first `=`
 equals_first : (b : Bool) → b ≡ true → cond {A = Option ℕ} b (Some 0) None ≡ Some 0
@@ -113,24 +111,16 @@ criterion_read word property is =
     ∙ property_read property is.1
 
 -- create
-all_built : (criteria : List Property) → list_any is_later criteria ≡ false → All IsBuilt criteria
-all_built [] e = All-nil IsBuilt
-all_built (property ∷ criteria) e =
-    let parts = or_parts (is_later property) (list_any is_later criteria) e in
-    All-cons IsBuilt property criteria parts.0 (all_built criteria parts.1)
-
 created_spelled : (name kind : List ℕ) (words : List (List ℕ)) (k : KindWord) (criteria : Option (List Property)) (line : Line) → is_script_name name ≡ true
     → kind ≡ kind_word k → each criterion words ≡ criteria → created name k criteria ≡ Ok line → Spells (codes "create" ∷ name ∷ kind ∷ words) line
 created_spelled name kind words k None line named kind_is read e = cc
 created_spelled name kind words k (Some criteria) line named kind_is read e =
-    let built = guarded_not (list_any is_later criteria) (Ok (lines.Create name k criteria)) Later line e in
     let same : lines.Create name k criteria ≡ line = cc in
     subst (λ (l : Line). Spells (codes "create" ∷ name ∷ kind ∷ words) l) same (
       words,
       ap (λ (w : List ℕ). codes "create" ∷ name ∷ w ∷ words) kind_is,
       named,
       each_apart criterion IsCriterion criterion_spelled words criteria read,
-      all_built criteria built.0,
     )
 
 create_found : (name kind : List ℕ) (words : List (List ℕ)) (k : Option KindWord) (line : Line) → is_script_name name ≡ true → kind_of kind ≡ k
@@ -147,11 +137,10 @@ create_spelled (name ∷ kind ∷ words) line e =
     create_found name kind words (kind_of kind) line form.0 refl form.1
 
 pub create_read : (name : List ℕ) (kind : KindWord) (words : List (List ℕ)) (criteria : List Property) → is_script_name name ≡ true
-    → AllZip IsCriterion words criteria → All IsBuilt criteria → create_line (name ∷ kind_word kind ∷ words) ≡ Ok (lines.Create name kind criteria)
-create_read name kind words criteria named said built =
+    → AllZip IsCriterion words criteria → create_line (name ∷ kind_word kind ∷ words) ≡ Ok (lines.Create name kind criteria)
+create_read name kind words criteria named said =
     rw named (ap (λ (k : Option KindWord). create_of name k (each criterion words)) (kind_read kind)
-    ∙ ap (created name kind) (each_read criterion IsCriterion criterion_read words criteria said)
-    ∙ rw (list_any_none is_later criteria built) refl)
+    ∙ ap (created name kind) (each_read criterion IsCriterion criterion_read words criteria said))
 
 -- levels
 type_spelled : (rest : List (List ℕ)) (at : LevelWords) → type_level rest ≡ Some at → codes "type" ∷ rest ≡ level_words at.level ++ at.rest
@@ -197,23 +186,21 @@ said_spelled (name ∷ value ∷ []) property e =
 said_spelled (name ∷ value ∷ next ∷ rest) property e = cc
 
 set_found : (words rest : List (List ℕ)) (made : Property → Line) (said : Option Property) (line : Line) → property_said rest ≡ said
-    → ((property : Property) → rest ≡ property.name ∷ property.value.0 ∷ [] → is_property_name property.name ≡ true → IsBuilt property → Spells words (made property))
+    → ((property : Property) → rest ≡ property.name ∷ property.value.0 ∷ [] → is_property_name property.name ≡ true → Spells words (made property))
     → set_of made said ≡ Ok line → Spells words line
 set_found words rest made None line a spells e = cc
 set_found words rest made (Some property) line a spells e =
-    let built = guarded_not (is_later property) (Ok (made property)) Later line e in
     let same : made property ≡ line = cc in
     let said = said_spelled rest property a in
-    subst (λ (l : Line). Spells words l) same (spells property said.0 said.1 built.0)
+    subst (λ (l : Line). Spells words l) same (spells property said.0 said.1)
 
 set_at_spelled : (words : List (List ℕ)) (at : Option LevelWords) (line : Line) → level_of words ≡ at → set_at at ≡ Ok line → Spells (codes "set" ∷ words) line
 set_at_spelled words None line a e = cc
 set_at_spelled words (Some at) line a e =
     set_found (codes "set" ∷ words) at.rest (λ property. lines.Set at.level property) (property_said at.rest) line refl
-    (λ property rest_is named built. (
+    (λ property rest_is named. (
       ap (λ (ws : List (List ℕ)). codes "set" ∷ ws) (level_spelled words at a ∙ ap (λ (ws : List (List ℕ)). level_words at.level ++ ws) rest_is),
       named,
-      built,
     )) e
 
 set_group_spelled : (rest : List (List ℕ)) (line : Line) → set_group rest ≡ Ok line → Spells (codes "set" ∷ codes "group" ∷ rest) line
@@ -221,7 +208,7 @@ set_group_spelled [] line e = cc
 set_group_spelled (group ∷ rest) line e =
     let form = guarded (is_script_name group) (set_of (λ property. lines.SetGroup group property) (property_said rest)) Syntax line e in
     set_found (codes "set" ∷ codes "group" ∷ group ∷ rest) rest (λ property. lines.SetGroup group property) (property_said rest) line refl
-    (λ property rest_is named built. (ap (λ (ws : List (List ℕ)). codes "set" ∷ codes "group" ∷ group ∷ ws) rest_is, form.0, named, built)) form.1
+    (λ property rest_is named. (ap (λ (ws : List (List ℕ)). codes "set" ∷ codes "group" ∷ group ∷ ws) rest_is, form.0, named)) form.1
 
 set_case : (b : Bool) (place : List ℕ) (rest : List (List ℕ)) (line : Line) → bytes_eq place (codes "group") ≡ b
     → cond b (set_group rest) (set_at (level_of (place ∷ rest))) ≡ Ok line → Spells (codes "set" ∷ place ∷ rest) line
@@ -237,19 +224,19 @@ set_begins : (level : Level) (rest : List (List ℕ)) → set_line (level_words 
 set_begins levels.Default rest = refl
 set_begins (levels.Type kind) rest = refl
 
-set_built : (made : Property → Line) (property : Property) → is_property_name property.name ≡ true → IsBuilt property
+set_made : (made : Property → Line) (property : Property) → is_property_name property.name ≡ true
     → set_of made (property_of property.name property.value.0) ≡ Ok (made property)
-set_built made property named built = ap (set_of made) (property_read property named) ∙ rw built refl
+set_made made property named = ap (set_of made) (property_read property named)
 
-pub set_read : (level : Level) (property : Property) → is_property_name property.name ≡ true → IsBuilt property
+pub set_read : (level : Level) (property : Property) → is_property_name property.name ≡ true
     → set_line (level_words level ++ property.name ∷ property.value.0 ∷ []) ≡ Ok (lines.Set level property)
-set_read level property named built =
+set_read level property named =
     let said : List (List ℕ) = property.name ∷ property.value.0 ∷ [] in
-    set_begins level said ∙ ap set_at (level_read level said) ∙ set_built (λ p. lines.Set level p) property named built
+    set_begins level said ∙ ap set_at (level_read level said) ∙ set_made (λ p. lines.Set level p) property named
 
-pub set_group_read : (group : List ℕ) (property : Property) → is_script_name group ≡ true → is_property_name property.name ≡ true → IsBuilt property
+pub set_group_read : (group : List ℕ) (property : Property) → is_script_name group ≡ true → is_property_name property.name ≡ true
     → set_group (group ∷ property.name ∷ property.value.0 ∷ []) ≡ Ok (lines.SetGroup group property)
-set_group_read group property group_named named built = rw group_named (set_built (λ p. lines.SetGroup group p) property named built)
+set_group_read group property group_named named = rw group_named (set_made (λ p. lines.SetGroup group p) property named)
 
 -- unset and get
 named_spelled : (words rest : List (List ℕ)) (made : List ℕ → Line) (line : Line) → ((name : List ℕ) → rest ≡ name ∷ [] → is_property_name name ≡ true → Spells words (made name))

@@ -6,7 +6,7 @@ use Rattle.std.specs.Str.{bytes_eq}
 use Rattle.fault_script.specs.Words.{words, is_comment, is_script_name, is_operation, each, only}
 use Rattle.fault_script.specs.Numbers.{number, host_number, host_numbers, positive_number}
 use Rattle.fault_script.specs.Arguments.{octets_of}
-use Rattle.fault_script.specs.Properties.{is_property_name, property_said, criterion, is_later}
+use Rattle.fault_script.specs.Properties.{is_property_name, property_said, criterion}
 use Rattle.property_manager.specs.declared.settings.Property.{Property}
 use Rattle.ft_base.specs.declared.decisions.Stop.{Stop}
 use Rattle.ft_base.specs.declared.decisions.Stop.TheVariants as stops
@@ -29,7 +29,7 @@ use Rattle.fault_script.specs.declared.verbs.Verb.TheVariants as verbs
 -- the first words of lines that are not built yet
 abbrev pub unbuilt : List (List ℕ)
 unbuilt =
-    codes "checkpoint" ∷ codes "update" ∷ codes "logfail" ∷ []
+    codes "logfail" ∷ []
 
 -- a line with this first word is `later`
 abbrev pub is_unbuilt : List ℕ → Bool
@@ -44,7 +44,8 @@ change_of first =
     else (if bytes_eq first (codes "report") then Some changes.Report
     else None)))
 
--- the first words of lines that look for faults or tell of them, or change a group's members
+-- the first words of lines that send states and updates, look for faults or tell of them, or change a
+-- group's members
 abbrev pub watching : List ℕ → Option Verb
 watching first =
     if bytes_eq first (codes "poll") then Some verbs.Poll
@@ -52,7 +53,9 @@ watching first =
     else (if bytes_eq first (codes "subscribe") then Some verbs.Subscribe
     else (if bytes_eq first (codes "unsubscribe") then Some verbs.Unsubscribe
     else (if bytes_eq first (codes "pull") then Some verbs.Pull
-    else option_map (λ change. verbs.Change change) (change_of first)))))
+    else (if bytes_eq first (codes "checkpoint") then Some verbs.Checkpoint
+    else (if bytes_eq first (codes "update") then Some verbs.Update
+    else option_map (λ change. verbs.Change change) (change_of first)))))))
 
 -- the first words of lines that make a group by properties, set these, or change a group
 abbrev pub making : List ℕ → Option Verb
@@ -115,18 +118,12 @@ style_of word =
     else (if bytes_eq word (codes "active") then Some styles.Active
     else None))
 
--- of all groups only a cold one is built
-abbrev pub built_group : List ℕ → KindWord → Style → List ℕ → Result Line LineFault
-built_group name kind styles.Cold members = Ok (lines.Group name kind styles.Cold members)
-built_group name kind styles.Warm members = Err Later
-built_group name kind styles.Active members = Err Later
-
 -- a group of this kind and style with these members, if words name them all
 abbrev pub group_of : List ℕ → Option KindWord → Option Style → Option (List ℕ) → Result Line LineFault
 group_of name None style members = Err Syntax
 group_of name (Some kind) None members = Err Syntax
 group_of name (Some kind) (Some style) None = Err Syntax
-group_of name (Some kind) (Some style) (Some members) = built_group name kind style members
+group_of name (Some kind) (Some style) (Some members) = Ok (lines.Group name kind style members)
 
 -- `group G KIND STYLE H..`
 abbrev pub group_line : List (List ℕ) → Result Line LineFault
@@ -288,10 +285,10 @@ grow_line (group ∷ rest) = grow_at group (only_host rest)
 abbrev pub delete_line : List (List ℕ) → Result Line LineFault
 delete_line rest = asked_of (λ name. lines.Delete name) (only rest)
 
--- a group by these criteria, if words say them all, and of a style that is built
+-- a group by these criteria, if words say them all
 abbrev pub created : List ℕ → KindWord → Option (List Property) → Result Line LineFault
 created name kind None = Err Syntax
-created name kind (Some criteria) = if list_any is_later criteria then Err Later else Ok (lines.Create name kind criteria)
+created name kind (Some criteria) = Ok (lines.Create name kind criteria)
 
 -- the same of a kind
 abbrev pub create_of : List ℕ → Option KindWord → Option (List Property) → Result Line LineFault
@@ -322,10 +319,10 @@ level_of (word ∷ rest) =
     else (if bytes_eq word (codes "type") then type_level rest
     else None)
 
--- a line that sets a property, but to a style that isn't built
+-- a line that sets a property
 abbrev pub set_of : (Property → Line) → Option Property → Result Line LineFault
 set_of line None = Err Syntax
-set_of line (Some property) = if is_later property then Err Later else Ok (line property)
+set_of line (Some property) = Ok (line property)
 
 -- `set default P V`, `set type KIND P V`
 abbrev pub set_at : Option LevelWords → Result Line LineFault
@@ -400,6 +397,14 @@ unsubscribe_line rest = asked_of (λ name. lines.Unsubscribe name) (only rest)
 abbrev pub pull_line : List (List ℕ) → Result Line LineFault
 pull_line rest = asked_of (λ name. lines.Pull name) (only rest)
 
+-- `checkpoint G`
+abbrev pub checkpoint_line : List (List ℕ) → Result Line LineFault
+checkpoint_line rest = asked_of (λ name. lines.Checkpoint name) (only rest)
+
+-- `update G`
+abbrev pub update_line : List (List ℕ) → Result Line LineFault
+update_line rest = asked_of (λ name. lines.Update name) (only rest)
+
 -- the line of each first word that is built
 abbrev pub line_of_verb : Option Verb → List (List ℕ) → Result Line LineFault
 line_of_verb None rest = Err Syntax
@@ -431,6 +436,8 @@ line_of_verb (Some verbs.Sweep) rest = sweep_line rest
 line_of_verb (Some verbs.Subscribe) rest = subscribe_line rest
 line_of_verb (Some verbs.Unsubscribe) rest = unsubscribe_line rest
 line_of_verb (Some verbs.Pull) rest = pull_line rest
+line_of_verb (Some verbs.Checkpoint) rest = checkpoint_line rest
+line_of_verb (Some verbs.Update) rest = update_line rest
 
 -- the line of a first word and the words behind it
 abbrev pub line_of : List ℕ → List (List ℕ) → Result Line LineFault

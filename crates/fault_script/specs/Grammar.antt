@@ -1,13 +1,14 @@
 -- The table of script lines: which words spell which line, one row for each line.
-use Rattle.std.specs.Prelude.{◌≡◌, ℕ, ◌<◌, ◌≤◌, ◌^◌, true, false, List, [], ◌∷◌, ◌++◌, codes, Some, None}
-use Rattle.std.specs.List.{All, AllZip}
+use Rattle.std.specs.Prelude.{◌≡◌, ℕ, ◌<◌, ◌≤◌, ◌^◌, true, List, [], ◌∷◌, ◌++◌, codes, Some, None}
+use Rattle.std.specs.List.{AllZip}
 use Rattle.ft_base.specs.declared.decisions.Stop.{Stop}
 use Rattle.ft_base.specs.declared.decisions.Stop.TheVariants.{Never, AfterAppend, AfterExecute}
-use Rattle.ft_base.specs.declared.views.Style.TheVariants.{Cold}
+use Rattle.ft_base.specs.declared.views.Style.{Style}
+use Rattle.ft_base.specs.declared.views.Style.TheVariants.{Cold, Warm, Active}
 use Rattle.fault_script.specs.Words.{is_script_name, is_operation}
 use Rattle.fault_script.specs.Numbers.{number, capped}
 use Rattle.fault_script.specs.Arguments.{octets_of}
-use Rattle.fault_script.specs.Properties.{is_property_name, equals_place, is_later}
+use Rattle.fault_script.specs.Properties.{is_property_name, equals_place}
 use Rattle.property_manager.specs.declared.settings.Property.{Property}
 use Rattle.fault_script.specs.declared.lines.KindWord.{KindWord}
 use Rattle.fault_script.specs.declared.lines.KindWord.TheVariants.{Account, Store, Queue}
@@ -16,7 +17,7 @@ use Rattle.fault_script.specs.declared.lines.MemberChange.TheVariants.{Add, Remo
 use Rattle.fault_script.specs.declared.lines.Level.{Level}
 use Rattle.fault_script.specs.declared.lines.Level.TheVariants as levels
 use Rattle.fault_script.specs.declared.lines.Line.{Line}
-use Rattle.fault_script.specs.declared.lines.Line.TheVariants.{Hosts, Group, Client, Call, Bind, Timeout, Deliver, Tick, Show, Locations, Id, Ref, MemberRef, Inject, Change, Crash, Restart, Create, Set, SetGroup, Unset, Get, GetGroup, Grow, Delete, Poll, Sweep, Subscribe, Unsubscribe, Pull}
+use Rattle.fault_script.specs.declared.lines.Line.TheVariants.{Hosts, Group, Client, Call, Bind, Timeout, Deliver, Tick, Show, Locations, Id, Ref, MemberRef, Inject, Change, Crash, Restart, Create, Set, SetGroup, Unset, Get, GetGroup, Grow, Delete, Poll, Sweep, Subscribe, Unsubscribe, Pull, Checkpoint, Update}
 
 -- a word is a number, which no more than 64 bits keep
 abbrev pub IsNumber : List ℕ → ℕ → Type 0
@@ -27,6 +28,12 @@ abbrev pub kind_word : KindWord → List ℕ
 kind_word Account = codes "account"
 kind_word Store = codes "store"
 kind_word Queue = codes "queue"
+
+-- the word of a style
+abbrev pub style_word : Style → List ℕ
+style_word Cold = codes "cold"
+style_word Warm = codes "warm"
+style_word Active = codes "active"
 
 -- the words of a stop
 abbrev pub stop_words : Stop → List (List ℕ)
@@ -47,10 +54,6 @@ IsCriterion word property =
     (word ≡ property.name ++ (codes "=" ++ property.value.0))
     × (is_property_name property.name ≡ true) × (equals_place property.name ≡ None)
 
--- the style that it asks for, if it does, is built
-abbrev pub IsBuilt : Property → Type 0
-IsBuilt property = is_later property ≡ false
-
 -- the words of a level
 abbrev pub level_words : Level → List (List ℕ)
 level_words levels.Default = codes "default" ∷ []
@@ -61,8 +64,8 @@ abbrev pub Spells : List (List ℕ) → Line → Type 0
 Spells words (Hosts count) =
     (digits : List ℕ) × (words ≡ codes "hosts" ∷ digits ∷ []) × IsNumber digits count × (1 ≤ count)
 Spells words (Group name kind style members) =
-    (digits : List (List ℕ)) × (words ≡ codes "group" ∷ name ∷ kind_word kind ∷ codes "cold" ∷ digits)
-    × (is_script_name name ≡ true) × (style ≡ Cold) × AllZip IsNumber digits members
+    (digits : List (List ℕ)) × (words ≡ codes "group" ∷ name ∷ kind_word kind ∷ style_word style ∷ digits)
+    × (is_script_name name ≡ true) × AllZip IsNumber digits members
 Spells words (Client name) = (words ≡ codes "client" ∷ name ∷ []) × (is_script_name name ≡ true)
 Spells words (Call client group op rest) =
     (words ≡ codes "call" ∷ client ∷ group ∷ op ∷ rest)
@@ -90,13 +93,13 @@ Spells words (Crash host) = (digits : List ℕ) × (words ≡ codes "crash" ∷ 
 Spells words (Restart host) = (digits : List ℕ) × (words ≡ codes "restart" ∷ digits ∷ []) × IsNumber digits host
 Spells words (Create name kind criteria) =
     (given : List (List ℕ)) × (words ≡ codes "create" ∷ name ∷ kind_word kind ∷ given)
-    × (is_script_name name ≡ true) × AllZip IsCriterion given criteria × All IsBuilt criteria
+    × (is_script_name name ≡ true) × AllZip IsCriterion given criteria
 Spells words (Set level property) =
     (words ≡ codes "set" ∷ level_words level ++ property.name ∷ property.value.0 ∷ [])
-    × (is_property_name property.name ≡ true) × IsBuilt property
+    × (is_property_name property.name ≡ true)
 Spells words (SetGroup group property) =
     (words ≡ codes "set" ∷ codes "group" ∷ group ∷ property.name ∷ property.value.0 ∷ [])
-    × (is_script_name group ≡ true) × (is_property_name property.name ≡ true) × IsBuilt property
+    × (is_script_name group ≡ true) × (is_property_name property.name ≡ true)
 Spells words (Unset level name) =
     (words ≡ codes "unset" ∷ level_words level ++ name ∷ []) × (is_property_name name ≡ true)
 Spells words (Get level name) =
@@ -112,3 +115,5 @@ Spells words (Subscribe subscriber filter) =
     (words ≡ codes "subscribe" ∷ subscriber ∷ filter ∷ []) × (is_script_name subscriber ≡ true)
 Spells words (Unsubscribe name) = (words ≡ codes "unsubscribe" ∷ name ∷ []) × (is_script_name name ≡ true)
 Spells words (Pull name) = (words ≡ codes "pull" ∷ name ∷ []) × (is_script_name name ≡ true)
+Spells words (Checkpoint name) = (words ≡ codes "checkpoint" ∷ name ∷ []) × (is_script_name name ≡ true)
+Spells words (Update name) = (words ≡ codes "update" ∷ name ∷ []) × (is_script_name name ≡ true)

@@ -1,9 +1,6 @@
 -- Properties as words: a name and a value, apart or joined by `=`.
-use Rattle.std.specs.Prelude.{ℕ, ◌+◌, ◌==◌, ◌&&◌, ◌||◌, Bool, if◌then◌else◌, List, [], ◌∷◌, take, drop, position, codes, Option, Some, None, is_none, option_and_then}
-use Rattle.std.specs.Str.{bytes_eq}
+use Rattle.std.specs.Prelude.{ℕ, ◌+◌, ◌==◌, Bool, if◌then◌else◌, List, [], ◌∷◌, take, drop, position, Option, Some, None, is_none, option_and_then}
 use Rattle.ft_base.specs.Text.{name_refusal}
-use Rattle.property_manager.specs.Names.{text_of}
-use Rattle.property_manager.specs.declared.names.PropertyName.TheVariants as names
 use Rattle.property_manager.specs.declared.settings.Property.{Property}
 use Rattle.fault_script.specs.Words.{only}
 
@@ -32,8 +29,3 @@ divided_at word (Some place) = property_of (take place word) (drop (place + 1) w
 -- `P=V`, of which the first `=` ends P
 abbrev pub criterion : List ℕ → Option Property
 criterion word = divided_at word (equals_place word)
-
--- it asks for groups of a style that isn't built yet
-abbrev pub is_later : Property → Bool
-is_later property = bytes_eq property.name (text_of names.ReplicationStyle)
-    && (bytes_eq property.value.0 (codes "WARM_PASSIVE") || bytes_eq property.value.0 (codes "ACTIVE"))

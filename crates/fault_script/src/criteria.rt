@@ -1,15 +1,14 @@
 ghost use Rattle.std.specs.Prelude.{◌≡◌, ◌<◌, true, length, IfSome};
-ghost use Rattle.std.specs.List.{list_any};
 ghost use Rattle.fault_script.specs.Words.{texts, each, is_script_name};
 ghost use Rattle.fault_script.specs.Faults.{IsAnswer};
 ghost use Rattle.fault_script.specs.Arguments.{IsFound};
-ghost use Rattle.fault_script.specs.Properties.{equals_place, criterion, is_later};
+ghost use Rattle.fault_script.specs.Properties.{equals_place, criterion};
 ghost use Rattle.fault_script.specs.Forms.{created, create_line};
 
 use crate::forms::find_kind;
 use crate::lines::{Criteria, KindWord, Line, LineFault};
 use crate::names::read_name;
-use crate::settings::{is_later, read_property};
+use crate::settings::read_property;
 use crate::splitting::{is_script_name, split_first};
 use property_manager::Property;
 use std::alloc::Global;
@@ -47,12 +46,6 @@ fn read_criteria(alloc: Global, words: &[&[u8]]) -> Result<Criteria, LineFault>
     Ok(Criteria::from_vec(properties))
 }
 
-fn any_later(properties: &[Property]) -> bool
-    ensures { result ≡ list_any is_later properties.now }
-{
-    properties.iter().any(|property| is_later(property))
-}
-
 fn create(alloc: Global, name: &[u8], kind: KindWord, words: &[&[u8]]) -> Result<Line, LineFault>
     requires { is_script_name name.now ≡ true }
     ensures { IsAnswer result (created name.now kind (each criterion (texts words.now))) }
@@ -61,9 +54,6 @@ fn create(alloc: Global, name: &[u8], kind: KindWord, words: &[&[u8]]) -> Result
         Ok(criteria) => criteria,
         Err(fault) => return Err(fault),
     };
-    if any_later(criteria.as_slice()) {
-        return Err(LineFault::Later);
-    }
     match read_name(alloc, name) {
         Ok(name) => Ok(Line::Create {
             name,

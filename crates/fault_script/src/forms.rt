@@ -3,7 +3,7 @@ ghost use Rattle.fault_script.specs.Words.{texts, only, is_script_name, is_opera
 ghost use Rattle.fault_script.specs.Numbers.{host_numbers};
 ghost use Rattle.fault_script.specs.Faults.{IsAnswer};
 ghost use Rattle.fault_script.specs.Arguments.{IsFound};
-ghost use Rattle.fault_script.specs.Forms.{only_host, hosts_line, kind_of, style_of, built_group, group_of, group_line, client_line, call_line, bind_line, timeout_line, stop_named, stop_of, deliver_line, tick_line, show_line, locations_line, id_line, ref_line, member_line, inject_line, change_line, crash_line, restart_line, grow_line, delete_line};
+ghost use Rattle.fault_script.specs.Forms.{only_host, hosts_line, kind_of, style_of, group_of, group_line, client_line, call_line, bind_line, timeout_line, stop_named, stop_of, deliver_line, tick_line, show_line, locations_line, id_line, ref_line, member_line, inject_line, change_line, crash_line, restart_line, grow_line, delete_line};
 
 use crate::arguments::read_octets;
 use crate::lines::{HostNumbers, KindWord, Line, LineFault, MemberChange, Words};
@@ -162,30 +162,6 @@ fn read_members(alloc: Global, hosts: &[&[u8]]) -> Result<HostNumbers, LineFault
     Ok(HostNumbers::from_vec(numbers))
 }
 
-fn build_group(
-    alloc: Global,
-    name: &[u8],
-    kind: KindWord,
-    style: Style,
-    members: HostNumbers,
-) -> Result<Line, LineFault>
-    requires { is_script_name name.now ≡ true }
-    ensures { IsAnswer result (built_group name.now kind style members) }
-{
-    match style {
-        Style::Cold => match read_name(alloc, name) {
-            Ok(name) => Ok(Line::Group {
-                name,
-                kind,
-                style,
-                members,
-            }),
-            Err(fault) => Err(fault),
-        },
-        Style::Warm | Style::Active => Err(LineFault::Later),
-    }
-}
-
 fn spell_group(
     alloc: Global,
     name: &[u8],
@@ -202,8 +178,17 @@ fn spell_group(
     let Some(style) = find_style(style) else {
         return Err(LineFault::Syntax);
     };
-    match read_members(alloc, hosts) {
-        Ok(members) => build_group(alloc, name, kind, style, members),
+    let members = match read_members(alloc, hosts) {
+        Ok(members) => members,
+        Err(fault) => return Err(fault),
+    };
+    match read_name(alloc, name) {
+        Ok(name) => Ok(Line::Group {
+            name,
+            kind,
+            style,
+            members,
+        }),
         Err(fault) => Err(fault),
     }
 }

@@ -12,6 +12,7 @@ mod options;
 mod reading;
 mod settings;
 mod splitting;
+mod transfers;
 mod verbs;
 
 pub use arguments::{CallWords, call_words};

@@ -80,7 +80,7 @@ pub enum MemberChange {
 pub enum Line {
     /// `hosts N`: the hosts 0 to N-1 are up.
     Hosts(u64),
-    /// `group G KIND STYLE H..`: a group of these members. Only a cold one is built.
+    /// `group G KIND STYLE H..`: a group of these members.
     Group {
         name: Name,
         kind: KindWord,
@@ -139,7 +139,7 @@ pub enum Line {
     Crash(u64),
     /// `restart H`: the host is up again.
     Restart(u64),
-    /// `create G KIND P=V..`: a group by these criteria. None gives it a style that isn't built.
+    /// `create G KIND P=V..`: a group by these criteria.
     Create {
         name: Name,
         kind: KindWord,
@@ -191,6 +191,10 @@ pub enum Line {
     Unsubscribe(Name),
     /// `pull S`: prints the faults that the subscriber wasn't told yet.
     Pull(Name),
+    /// `checkpoint G`: the group's log begins anew with a state.
+    Checkpoint(Name),
+    /// `update G`: the backups of a warm group are told what its primary has run.
+    Update(Name),
 }
 
 /// What there are only so many of.

@@ -15,6 +15,7 @@ use crate::lines::{LimitName, Line, LineFault};
 use crate::monitors::{read_poll, read_pull, read_subscribe, read_sweep, read_unsubscribe};
 use crate::settings::{read_get, read_set, read_unset};
 use crate::splitting::{is_comment, split_first, split_words};
+use crate::transfers::{read_checkpoint, read_update};
 use crate::verbs::{Verb, find_verb, is_unbuilt};
 use std::alloc::Global;
 
@@ -57,6 +58,8 @@ fn read_form(alloc: Global, first: &[u8], rest: &[&[u8]]) -> Result<Line, LineFa
         Some(Verb::Subscribe) => read_subscribe(alloc, rest),
         Some(Verb::Unsubscribe) => read_unsubscribe(alloc, rest),
         Some(Verb::Pull) => read_pull(alloc, rest),
+        Some(Verb::Checkpoint) => read_checkpoint(alloc, rest),
+        Some(Verb::Update) => read_update(alloc, rest),
     }
 }
 

@@ -2,7 +2,7 @@ ghost use Rattle.std.specs.Prelude.{◌≡◌, None, Some, MatchOption};
 ghost use Rattle.fault_script.specs.Words.{texts};
 ghost use Rattle.fault_script.specs.Faults.{IsAnswer};
 ghost use Rattle.fault_script.specs.Arguments.{IsFound};
-ghost use Rattle.fault_script.specs.Properties.{property_of, property_said, is_later};
+ghost use Rattle.fault_script.specs.Properties.{property_of, property_said};
 ghost use Rattle.fault_script.specs.Forms.{level_of, set_group, set_line, unset_line, get_group, get_line};
 
 use crate::forms::find_kind;
@@ -10,17 +10,8 @@ use crate::lines::{Level, Line, LineFault};
 use crate::names::{read_any_name, read_name};
 use crate::splitting::{only, split_first};
 use ft_base::{Bytes, NoMemory};
-use property_manager::{Property, PropertyName, PropertyValue};
+use property_manager::{Property, PropertyValue};
 use std::alloc::Global;
-
-/// Whether a property asks for groups of a style that isn't built yet.
-pub(crate) fn is_later(property: &Property) -> bool
-    ensures { result ≡ is_later property.now }
-{
-    let value = property.value.0.bytes();
-    property.name.bytes() == PropertyName::ReplicationStyle.text()
-        && (value == b"WARM_PASSIVE".as_slice() || value == b"ACTIVE".as_slice())
-}
 
 /// The property with this name and this value.
 pub(crate) fn read_property(alloc: Global, name: &[u8], value: &[u8]) -> Result<Property, LineFault>
@@ -83,9 +74,6 @@ fn read_set_group(alloc: Global, words: &[&[u8]]) -> Result<Line, LineFault>
         Ok(property) => property,
         Err(fault) => return Err(fault),
     };
-    if is_later(&property) {
-        return Err(LineFault::Later);
-    }
     Ok(Line::SetGroup { group, property })
 }
 
@@ -106,9 +94,6 @@ pub(crate) fn read_set(alloc: Global, words: &[&[u8]]) -> Result<Line, LineFault
         Ok(property) => property,
         Err(fault) => return Err(fault),
     };
-    if is_later(&property) {
-        return Err(LineFault::Later);
-    }
     Ok(Line::Set { level, property })
 }
 

@@ -36,6 +36,8 @@ pub(crate) enum Verb {
     Subscribe,
     Unsubscribe,
     Pull,
+    Checkpoint,
+    Update,
 }
 
 fn find_change(first: &[u8]) -> Option<MemberChange>
@@ -54,7 +56,7 @@ fn find_change(first: &[u8]) -> Option<MemberChange>
     }
 }
 
-/// The line about faults, or of changes of members, that a first word begins.
+/// The line about states, updates or faults, or of changes of members, that a first word begins.
 fn find_watching(first: &[u8]) -> Option<Verb>
     ensures { result ≡ watching first.now }
 {
@@ -68,12 +70,17 @@ fn find_watching(first: &[u8]) -> Option<Verb>
         Some(Verb::Unsubscribe)
     } else if first == b"pull".as_slice() {
         Some(Verb::Pull)
+    } else if first == b"checkpoint".as_slice() {
+        Some(Verb::Checkpoint)
+    } else if first == b"update".as_slice() {
+        Some(Verb::Update)
     } else {
         find_change(first).map(Verb::Change)
     }
 }
 
-/// The line of groups by properties, about faults, or of changes of members, that a first word begins.
+/// The line of groups by properties, about states, updates or faults, or of changes of members, that a first
+/// word begins.
 fn find_making(first: &[u8]) -> Option<Verb>
     ensures { result ≡ making first.now }
 {
@@ -135,7 +142,7 @@ pub(crate) fn find_verb(first: &[u8]) -> Option<Verb>
     }
 }
 
-static UNBUILT: [&[u8]; 3] = [b"checkpoint", b"update", b"logfail"];
+static UNBUILT: [&[u8]; 1] = [b"logfail"];
 
 fn is_among(word: &[u8], texts: &[&[u8]]) -> bool
     ensures { result ≡ list_any (λ text. bytes_eq word.now text.now) texts.now }

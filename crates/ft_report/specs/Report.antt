@@ -263,6 +263,16 @@ report_text (lines.Fault subscriber host id group) =
     line (codes "fault" ∷ subscriber ∷ location_text host ∷ decimal id.0 ∷ group ∷ [])
 report_text (lines.NoFault subscriber) =
     line (codes "fault" ∷ subscriber ∷ codes "none" ∷ [])
+report_text (lines.Checkpoint group host position time) =
+    line (codes "checkpoint" ∷ group ∷ codes "host" ∷ decimal host.0 ∷ codes "position" ∷ decimal position ∷ codes "time" ∷ decimal time.0 ∷ [])
+report_text (lines.CheckpointNone group) =
+    line (codes "checkpoint" ∷ group ∷ codes "none" ∷ [])
+report_text (lines.CheckpointFailed group) =
+    line (codes "checkpoint" ∷ group ∷ codes "logfault" ∷ [])
+report_text (lines.Updated group host base position) =
+    line (codes "update" ∷ group ∷ codes "host" ∷ decimal host.0 ∷ codes "from" ∷ decimal base ∷ codes "to" ∷ decimal position ∷ [])
+report_text (lines.UpdateNone group) =
+    line (codes "update" ∷ group ∷ codes "none" ∷ [])
 report_text (lines.Property name value) =
     line (codes "property" ∷ name ∷ value ∷ [])
 report_text (lines.Show group version entries mark time) =

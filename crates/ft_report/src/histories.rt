@@ -29,4 +29,11 @@ impl Written {
     {
         Written {}
     }
+
+    /// The lines of before, and then others.
+    pub fn joined(before: &Written, others: &Written) -> Written
+        ensures { result.lines ≡ before.now.lines ++ others.now.lines }
+    {
+        Written {}
+    }
 }

@@ -7,6 +7,7 @@ mod parts;
 mod rendering;
 mod reports;
 mod showing;
+mod transfers;
 mod words;
 
 pub use outcomes::{ReportOutcome, Worth, worth_of};

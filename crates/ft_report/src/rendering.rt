@@ -12,6 +12,7 @@ use crate::reports::{CallEnd, ReportLine, SettingFault, SubscribeFault};
 use crate::showing::{
     locations_line, member_line, member_ref_line, no_group_line, property_line, ref_line, show_line,
 };
+use crate::transfers::{checkpoint_line, updated_line};
 use crate::words::Word::{Fixed, Host, Location, Made, Number, Text};
 use crate::words::{Word, hosts, octets, phrase, push_line, push_phrase};
 use ft_base::{Bytes, Decision, GroupId, HostNo, Ignored, Members, Name, NoMemory, Version};
@@ -655,6 +656,40 @@ pub fn write_line(text: &mut Vec<u8>, alloc: Global, line: &ReportLine) -> Resul
             text,
             &[Fixed(b"fault"), Text(subscriber.bytes()), Fixed(b"none")],
         ),
+        ReportLine::Checkpoint {
+            group,
+            host,
+            position,
+            time,
+        } => checkpoint_line(text, group, *host, *position, *time),
+        ReportLine::CheckpointNone { group } => {
+            push_line(
+                text,
+                &[Fixed(b"checkpoint"), Text(group.bytes()), Fixed(b"none")],
+            )
+        }
+        ReportLine::CheckpointFailed { group } => {
+            push_line(
+                text,
+                &[
+                    Fixed(b"checkpoint"),
+                    Text(group.bytes()),
+                    Fixed(b"logfault"),
+                ],
+            )
+        }
+        ReportLine::Updated {
+            group,
+            host,
+            base,
+            position,
+        } => updated_line(text, group, *host, *base, *position),
+        ReportLine::UpdateNone { group } => {
+            push_line(
+                text,
+                &[Fixed(b"update"), Text(group.bytes()), Fixed(b"none")],
+            )
+        }
         ReportLine::Property { name, value } => property_line(text, alloc, name, value),
         ReportLine::Show {
             group,

@@ -273,6 +273,32 @@ pub enum ReportLine {
     NoFault {
         subscriber: Name,
     },
+    /// A host took a checkpoint of its group at this position; the group's time is now this.
+    Checkpoint {
+        group: Name,
+        host: HostNo,
+        position: u32,
+        time: Tick,
+    },
+    /// No host of the group can take a checkpoint.
+    CheckpointNone {
+        group: Name,
+    },
+    /// The checkpoint couldn't be written.
+    CheckpointFailed {
+        group: Name,
+    },
+    /// A host sends the others what changed between two positions.
+    Updated {
+        group: Name,
+        host: HostNo,
+        base: u32,
+        position: u32,
+    },
+    /// No host of the group can send an update.
+    UpdateNone {
+        group: Name,
+    },
     /// A property's value.
     Property {
         name: Name,
@@ -389,6 +415,19 @@ impl ReportLines {
             return Err(NoMemory);
         }
         self.written = Written::with(&self.written, &line);
+        Ok(())
+    }
+
+    /// Adds other lines, behind its own; where no memory is left nothing is said of the lines.
+    pub fn append(&mut self, others: ReportLines) -> Result<(), NoMemory>
+        ensures { OnOk result (self.new ≡ self.old ++ others) }
+    {
+        if self.text.extend_from_slice(others.text.as_slice()).is_err() {
+            self.text.clear();
+            self.written = Written::new();
+            return Err(NoMemory);
+        }
+        self.written = Written::joined(&self.written, &others.written);
         Ok(())
     }
 

@@ -39,7 +39,7 @@ use Rattle.group_references.specs.Ports.{host_at}
 use Rattle.host_server.specs.Replies.{no_group}
 use Rattle.iogr_reference.specs.Choices.{group_of_key}
 use Rattle.link_session.specs.Amid.{Grows, session_grows}
-use Rattle.link_session.specs.Ports.{linked}
+use Rattle.link_session.specs.Ports.{Replying, linked}
 use Rattle.property_manager.specs.declared.effective.Levels.{Levels}
 use Rattle.property_manager.specs.declared.faults.PropertyFault.{PropertyFault}
 use Rattle.property_manager.specs.declared.settings.Property.{Property}
@@ -60,6 +60,7 @@ use Rattle.script_world.specs.declared.messages.Reply.{Reply as AReply}
 use Rattle.script_world.specs.Sound.{HasActed, IsKeptWorld}
 use Rattle.script_world.specs.World.{World, client_named, is_up, message_numbered, passed, with_client, with_event, with_fault, with_hosts, with_messages, with_one_client, with_settings, with_subscribers, without_group}
 use Rattle.script_world.specs.Worlds.{begin}
+use Rattle.ft_world.proofs.KeepingLemmas.{Keeps, Makes, as_many, behind, client_hears, group_acts, group_sends, host_starts, host_stops, if_keeps, more_sent, same, untouched}
 use Rattle.ft_world.proofs.PlaceLemmas.{IsOf, IsOneNamed, IsOneOf, all_get, all_push, all_set, called_one, found_one, got, there_one, with_number_one}
 use Rattle.ft_world.specs.Acts.{act, act_first}
 use Rattle.ft_world.specs.Clients.{attempted, begun, call_by, call_from, call_said, call_to, does, gone_for, gone_said, started, started_by}
@@ -88,23 +89,12 @@ use Rattle.world_monitors.specs.Polling.{asks, poll_of, polled, watched_members}
 use Rattle.world_monitors.specs.Subscribing.{pull_by, subscribe_line, subscriber_causes, subscribes, subscribes_by, unsubscribe_from}
 use Rattle.world_monitors.specs.Staying.{reports_stay}
 use Rattle.world_monitors.specs.Sweeping.{reported, reports_all, reports_one, sweep_of, sweeps, swept}
-use Rattle.world_turns.specs.Sending.{all_carried}
+use Rattle.script_groups.specs.Takers.{checkpoint_taker, update_taker}
+use Rattle.world_transfers.specs.Transfers.{checkpoint_by, checkpoint_event, checkpoint_of, checkpointed, update_by, update_of, updated}
+use Rattle.world_turns.specs.Sending.{all_sent}
 use Rattle.world_turns.specs.Naming.{Naming, NeverMade, Deleted, There, gone, group_called, group_with_number}
 use Rattle.world_turns.specs.Turns.{Effect, Turn, Goes, Refused, first_cause, goes, judged, says, total_causes, totals_of, unless}
 use Rattle.ft_world.proofs.LaterLemmas.{Few, AreFew, more_few, all_stay, all_next, one_later, each_later, one_behind, one_called, none_called, one_behind_called}
-
--- ---- two worlds, the second behind the first by so many servant calls
-
--- no time goes by, and no client begins an invocation
-record Keeps (w new : World) (calls : ℕ) : Type 0 where
-  groups : AllByRecursion IsKept w.groups → AllByRecursion IsKept new.groups
-  later : AllLater HasMore w.groups new.groups
-  called : CallsGoOn → NoneCalledYet → calls_of_groups new.groups ≡ calls_of_groups w.groups + calls
-  clock : new.clock ≡ w.clock
-  few : (lines : ℕ) → AreFew lines w.clients → AreFew lines new.clients
-
-abbrev Makes : World → Effect → Type 0
-Makes w e = Keeps w e.world e.calls
 
 -- T says of a line that its ticks are few.
 module _ (T : Type 0) where
@@ -114,31 +104,6 @@ module _ (T : Type 0) where
     pub later : AllLater HasMore w.groups new.groups
     pub called : CallsGoOn → NoneCalledYet → calls_of_groups new.groups ≡ calls_of_groups w.groups + calls
     pub acted : T → (lines : ℕ) → HasActed w lines → HasActed new (lines + 1)
-
-  -- the groups are as they were
-  untouched : (w new : World) → new.groups ≡ w.groups → new.clock ≡ w.clock → ((lines : ℕ) → AreFew lines w.clients → AreFew lines new.clients) → Keeps w new 0
-  untouched w new groups clock few = record {
-    groups = λ all. subst (AllByRecursion IsKept) (sym groups) all;
-    later = subst (AllLater HasMore w.groups) (sym groups) (all_stay w.groups);
-    called = λ go none. let same = ap calls_of_groups groups in omega (arith, same);
-    clock = clock;
-    few = few;
-  }
-
-  same : (w : World) → Keeps w w 0
-  same w = untouched w w refl refl (λ lines f. f)
-
-  behind : (w v new : World) (m n : ℕ) → Keeps w v m → Keeps v new n → Keeps w new (m + n)
-  behind w v new m n a b = record {
-    groups = λ all. b.groups (a.groups all);
-    later = all_next w.groups v.groups new.groups a.later b.later;
-    called = λ go none. let first = a.called go none in let second = b.called go none in omega (arith, first, second);
-    clock = b.clock ∙ a.clock;
-    few = λ lines f. b.few lines (a.few lines f);
-  }
-
-  as_many : (w new : World) (m n : ℕ) → m ≡ n → Keeps w new m → Keeps w new n
-  as_many w new m n e keeps = subst (Keeps w new) e keeps
 
   begins_none : (w new : World) (calls : ℕ) → Keeps w new calls → Follows w new calls
   begins_none w new calls keeps = record {
@@ -161,45 +126,6 @@ module _ (T : Type 0) where
       started = b.few (lines + 1) g.started;
     };
   }
-
-  -- ---- small changes
-
-  more_sent : (w : World) (ms : List Message) → Keeps w (record w { messages = w.messages ++ ms }) 0
-  more_sent w ms = untouched w (record w { messages = w.messages ++ ms }) refl refl (λ lines f. f)
-
-  all_hear : (e : Event) (gs : List ScriptGroup) → AllByRecursion IsKept gs → AllByRecursion IsKept (all_acted e gs)
-  all_hear e [] all = tt
-  all_hear e (g ∷ gs) all = (all.0, all_hear e gs all.1)
-
-  group_acts : (w : World) (p : Placed ScriptGroup) (e : Event) → IsOneOf w.groups (Some p) → Keeps w (with_event w p.place p.value e) (turn p.value e).calls
-  group_acts w p e is = record {
-    groups = λ all. all_set IsKept w.groups p.place (acted p.value e) all (all_get IsKept w.groups p.place p.value all is);
-    later = one_later w.groups p.place p.value e is;
-    called = λ go none. one_called go w.groups p.place p.value e is;
-    clock = refl;
-    few = λ lines f. f;
-  }
-
-  host_stops : (w : World) (host : HostNo) → Keeps w (stopped w host) 0
-  host_stops w host = record {
-    groups = λ all. all_hear (events.Crash host) w.groups all;
-    later = each_later (events.Crash host) w.groups;
-    called = λ go none. let same = none_called go (events.Crash host) (λ g. refl) w.groups in omega (arith, same);
-    clock = refl;
-    few = λ lines f. f;
-  }
-
-  host_starts : (w : World) (host : HostNo) → Keeps w (started_again w host) 0
-  host_starts w host = record {
-    groups = λ all. all_hear (events.Restart host) w.groups all;
-    later = each_later (events.Restart host) w.groups;
-    called = λ go none. let same = none_called go (events.Restart host) (λ g. refl) w.groups in omega (arith, same);
-    clock = refl;
-    few = λ lines f. f;
-  }
-
-  client_hears : (w : World) (i : ℕ) (c d : Client) → IsOf w.clients (Some c) → ((lines : ℕ) → Few lines c → Few lines d) → Keeps w (with_client w i d) 0
-  client_hears w i c d is hears = untouched w (with_client w i d) refl refl (λ lines f. all_set (Few lines) w.clients i d f (hears lines (is (Few lines) f)))
 
   client_starts : (w : World) (p : Placed Client) (d : Client) → IsOneOf w.clients (Some p) → ((lines : ℕ) → Few lines p.value → Few (lines + 1) d) →
       Follows w (with_client w p.place d) 0
@@ -226,10 +152,6 @@ module _ (T : Type 0) where
   judged_on : (w : World) (t : Turn) → GoesOn w t → GoesOn w (judged t)
   judged_on w (Goes new report calls) on = refused_or w (first_cause (total_causes (totals_of new))) calls (Goes new report calls) on
   judged_on w (Refused why calls) on = tt
-
-  if_keeps : (w : World) (b : Bool) (e f : Effect) → Makes w e → Makes w f → Makes w (if b then e else f)
-  if_keeps w true e f a b = a
-  if_keeps w false e f a b = b
 
   -- ---- what a client does
 
@@ -404,35 +326,35 @@ module _ (T : Type 0) where
     more : f.calls ≡ e.calls + calls
     keeps : Keeps e.world f.world calls
 
-  port_further : (e : Effect) (w : World) (host : ℕ) (g : ScriptGroup) (gives : Option Par) (calls : ℕ) (answer : GroupAnswer) → Keeps e.world w calls →
-      Further e (answered_by e w host g gives calls answer).effect
-  port_further e w host g gives calls (answers.Reply decision (Some answer) out) keeps = record {
+  port_further : (e : Effect) (w : World) (host : ℕ) (g : ScriptGroup) (gives : Option Par) (reply : Replying) (calls : ℕ) (answer : GroupAnswer) → Keeps e.world w calls →
+      Further e (answered_by e w host g gives reply calls answer)
+  port_further e w host g gives reply calls (answers.Reply decision (Some answer) out) keeps = record {
     calls = calls;
     more = refl;
-    keeps = as_many e.world (answered_by e w host g gives calls (answers.Reply decision (Some answer) out)).effect.world (calls + 0) calls (omega arith)
-        (behind e.world w (answered_by e w host g gives calls (answers.Reply decision (Some answer) out)).effect.world calls 0 keeps (more_sent w (all_carried g.id out)));
+    keeps = as_many e.world (answered_by e w host g gives reply calls (answers.Reply decision (Some answer) out)).world (calls + 0) calls (omega arith)
+        (behind e.world w (answered_by e w host g gives reply calls (answers.Reply decision (Some answer) out)).world calls 0 keeps (group_sends w g.id out));
   }
-  port_further e w host g gives calls (answers.Reply decision None out) keeps = record { calls = calls; more = refl; keeps = keeps }
-  port_further e w host g gives calls (answers.Known version) keeps = record { calls = calls; more = refl; keeps = keeps }
-  port_further e w host g gives calls (answers.Applied position) keeps = record { calls = calls; more = refl; keeps = keeps }
-  port_further e w host g gives calls (answers.Held position) keeps = record { calls = calls; more = refl; keeps = keeps }
-  port_further e w host g gives calls (answers.Ignored why) keeps = record { calls = calls; more = refl; keeps = keeps }
-  port_further e w host g gives calls (answers.Taken from position out) keeps = record { calls = calls; more = refl; keeps = keeps }
-  port_further e w host g gives calls (answers.Changed view out) keeps = record { calls = calls; more = refl; keeps = keeps }
-  port_further e w host g gives calls (answers.Refused why) keeps = record { calls = calls; more = refl; keeps = keeps }
-  port_further e w host g gives calls answers.LogFault keeps = record { calls = calls; more = refl; keeps = keeps }
-  port_further e w host g gives calls answers.Down keeps = record { calls = calls; more = refl; keeps = keeps }
-  port_further e w host g gives calls answers.Up keeps = record { calls = calls; more = refl; keeps = keeps }
-  port_further e w host g gives calls answers.NoMemory keeps = record { calls = calls; more = refl; keeps = keeps }
+  port_further e w host g gives reply calls (answers.Reply decision None out) keeps = record { calls = calls; more = refl; keeps = keeps }
+  port_further e w host g gives reply calls (answers.Known version) keeps = record { calls = calls; more = refl; keeps = keeps }
+  port_further e w host g gives reply calls (answers.Applied position) keeps = record { calls = calls; more = refl; keeps = keeps }
+  port_further e w host g gives reply calls (answers.Held position) keeps = record { calls = calls; more = refl; keeps = keeps }
+  port_further e w host g gives reply calls (answers.Ignored why) keeps = record { calls = calls; more = refl; keeps = keeps }
+  port_further e w host g gives reply calls (answers.Taken from position out) keeps = record { calls = calls; more = refl; keeps = keeps }
+  port_further e w host g gives reply calls (answers.Changed view out) keeps = record { calls = calls; more = refl; keeps = keeps }
+  port_further e w host g gives reply calls (answers.Refused why) keeps = record { calls = calls; more = refl; keeps = keeps }
+  port_further e w host g gives reply calls answers.LogFault keeps = record { calls = calls; more = refl; keeps = keeps }
+  port_further e w host g gives reply calls answers.Down keeps = record { calls = calls; more = refl; keeps = keeps }
+  port_further e w host g gives reply calls answers.Up keeps = record { calls = calls; more = refl; keeps = keeps }
+  port_further e w host g gives reply calls answers.NoMemory keeps = record { calls = calls; more = refl; keeps = keeps }
 
-  ask_further : (e : Effect) (host : ℕ) (asked : Asked) (o : Option (Placed ScriptGroup)) → IsOneOf e.world.groups o →
-      Further e (ask_group e host asked o).effect
-  ask_further e host asked None is = record { calls = 0; more = refl; keeps = same e.world }
-  ask_further e host asked (Some p) is =
+  ask_further : (e : Effect) (host : ℕ) (asked : Asked) (reply : Replying) (o : Option (Placed ScriptGroup)) → IsOneOf e.world.groups o →
+      Further e (ask_group e host asked reply o)
+  ask_further e host asked reply None is = record { calls = 0; more = refl; keeps = same e.world }
+  ask_further e host asked reply (Some p) is =
       let event : Event = asked_event e.world host asked in
       let v : World = with_event e.world p.place p.value event in
       let t = turn p.value event in
-      port_further e v host (acted p.value event) (gives_of (signature_asked (machine_of p.value) asked.op)) t.calls t.answer (group_acts e.world p event is)
+      port_further e v host (acted p.value event) (gives_of (signature_asked (machine_of p.value) asked.op)) reply t.calls t.answer (group_acts e.world p event is)
 
   by_one : (w : World) (o : Option GroupId) → IsOneOf w.groups (group_by w o)
   by_one w None = tt
@@ -452,7 +374,7 @@ module _ (T : Type 0) where
   links_keep host = record {
     same = λ (e : Effect). none_further e e refl (omega arith);
     next = further_on;
-    asks = λ (e : Effect) (key : List ℕ) (asked : Asked). ask_further e host asked (group_keyed e.world key) (by_one e.world (group_of_key key));
+    asks = λ (e : Effect) (key : List ℕ) (asked : Asked) (reply : Replying). ask_further e host asked reply (group_keyed e.world key) (by_one e.world (group_of_key key));
     writes = λ (e : Effect) (bytes : List ℕ). none_further e (written e bytes) refl refl;
   }
 
@@ -483,8 +405,8 @@ module _ (T : Type 0) where
 
   changed_keeps : (w : World) (host : HostNo) (g : ScriptGroup) (change : Change) (answer : GroupAnswer) → Makes w (changed w host g change answer)
   changed_keeps w host g change (answers.Changed view out) =
-      let sent : World = with_messages w (all_carried g.id out) in
-      behind w sent (with_reported sent g.kind g.id change) 0 0 (more_sent w (all_carried g.id out)) (reported_keeps sent g.kind g.id change)
+      let sent : World = all_sent w g.id out in
+      behind w sent (with_reported sent g.kind g.id change) 0 0 (group_sends w g.id out) (reported_keeps sent g.kind g.id change)
   changed_keeps w host g change (answers.Refused why) = same w
   changed_keeps w host g change (answers.Reply decision answer out) = same w
   changed_keeps w host g change (answers.Known version) = same w
@@ -519,6 +441,66 @@ module _ (T : Type 0) where
   grow_on w (Deleted p) host is = on_host_on w host (gone w) (same w)
   grow_on w (There p) host is =
       on_host_on w host (changes_members w p (creation w p.value host) (host_no host)) (changes_keep w p (creation w p.value host) (host_no host) is)
+
+  -- ---- states and updates
+
+  checkpointed_keeps : (w : World) (host : HostNo) (g : ScriptGroup) (answer : GroupAnswer) → Makes w (checkpointed w host g answer)
+  checkpointed_keeps w host g (answers.Taken from position out) = group_sends w g.id out
+  checkpointed_keeps w host g (answers.Reply decision answer out) = same w
+  checkpointed_keeps w host g (answers.Known version) = same w
+  checkpointed_keeps w host g (answers.Applied position) = same w
+  checkpointed_keeps w host g (answers.Held position) = same w
+  checkpointed_keeps w host g (answers.Ignored why) = same w
+  checkpointed_keeps w host g (answers.Changed view out) = same w
+  checkpointed_keeps w host g (answers.Refused why) = same w
+  checkpointed_keeps w host g answers.LogFault = same w
+  checkpointed_keeps w host g answers.Down = same w
+  checkpointed_keeps w host g answers.Up = same w
+  checkpointed_keeps w host g answers.NoMemory = same w
+
+  updated_keeps : (w : World) (host : HostNo) (g : ScriptGroup) (answer : GroupAnswer) → Makes w (updated w host g answer)
+  updated_keeps w host g (answers.Taken from position out) = group_sends w g.id out
+  updated_keeps w host g (answers.Reply decision answer out) = same w
+  updated_keeps w host g (answers.Known version) = same w
+  updated_keeps w host g (answers.Applied position) = same w
+  updated_keeps w host g (answers.Held position) = same w
+  updated_keeps w host g (answers.Ignored why) = same w
+  updated_keeps w host g (answers.Changed view out) = same w
+  updated_keeps w host g (answers.Refused why) = same w
+  updated_keeps w host g answers.LogFault = same w
+  updated_keeps w host g answers.Down = same w
+  updated_keeps w host g answers.Up = same w
+  updated_keeps w host g answers.NoMemory = same w
+
+  checkpoint_keeps : (w : World) (p : Placed ScriptGroup) (o : Option HostNo) → IsOneOf w.groups (Some p) → Makes w (checkpoint_by w p o)
+  checkpoint_keeps w p None is = same w
+  checkpoint_keeps w p (Some host) is =
+      let e : Event = checkpoint_event w host in
+      let v : World = with_event w p.place p.value e in
+      let made : Effect = checkpointed v host (acted p.value e) (turn p.value e).answer in
+      behind w v made.world (turn p.value e).calls made.calls (group_acts w p e is) (checkpointed_keeps v host (acted p.value e) (turn p.value e).answer)
+
+  update_keeps : (w : World) (p : Placed ScriptGroup) (o : Option HostNo) → IsOneOf w.groups (Some p) → Makes w (update_by w p o)
+  update_keeps w p None is = same w
+  update_keeps w p (Some host) is =
+      let e : Event = events.SendUpdate host in
+      let v : World = with_event w p.place p.value e in
+      let made : Effect = updated v host (acted p.value e) (turn p.value e).answer in
+      behind w v made.world (turn p.value e).calls made.calls (group_acts w p e is) (updated_keeps v host (acted p.value e) (turn p.value e).answer)
+
+  checkpoint_on : (w : World) (n : Naming) → IsOneNamed w.groups n → GoesOn w (checkpoint_of w n)
+  checkpoint_on w NeverMade is = tt
+  checkpoint_on w (Deleted p) is = begins_none w w 0 (same w)
+  checkpoint_on w (There p) is =
+      let e : Effect = checkpoint_by w p (checkpoint_taker p.value) in
+      begins_none w e.world e.calls (checkpoint_keeps w p (checkpoint_taker p.value) is)
+
+  update_on : (w : World) (n : Naming) → IsOneNamed w.groups n → GoesOn w (update_of w n)
+  update_on w NeverMade is = tt
+  update_on w (Deleted p) is = begins_none w w 0 (same w)
+  update_on w (There p) is =
+      let e : Effect = update_by w p (update_taker p.value) in
+      begins_none w e.world e.calls (update_keeps w p (update_taker p.value) is)
 
   -- ---- the monitor, and those who subscribe
 
@@ -751,6 +733,8 @@ module _ (T : Type 0) where
   first_on w (lines.Subscribe subscriber filter) timely = subscribe_on w subscriber filter
   first_on w (lines.Unsubscribe subscriber) timely = unsubscribe_on w subscriber (subscriber_named w.subscribers subscriber)
   first_on w (lines.Pull subscriber) timely = pull_on w subscriber (pulled_of (subscriber_named w.subscribers subscriber))
+  first_on w (lines.Checkpoint name) timely = checkpoint_on w (group_called w name) (called_one w name)
+  first_on w (lines.Update name) timely = update_on w (group_called w name) (called_one w name)
 
   pub act_on : (w : World) (line : Line) → (T → IsTimely line) → GoesOn w (act w line)
   act_on w line timely = judged_on w (act_first w line) (first_on w line timely)

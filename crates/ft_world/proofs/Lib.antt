@@ -6,5 +6,6 @@ pub mod LinkLemmas
 pub mod ReplyLemmas
 pub mod PortLemmas
 pub mod LaterLemmas
+pub mod KeepingLemmas
 pub mod KeptLemmas
 pub mod JournalLemmas

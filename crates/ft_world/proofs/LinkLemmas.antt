@@ -38,19 +38,19 @@ use Rattle.group_model.specs.Asking.{signature_asked}
 use Rattle.group_model.specs.Plain.{Common}
 use Rattle.group_model.specs.declared.events.Event.{Event}
 use Rattle.group_model.specs.declared.events.Event.TheVariants as events
-use Rattle.host_server.specs.declared.answers.PortAnswer.{PortAnswer}
 use Rattle.sys_faults.specs.declared.answers.Answer.{Answer}
 use Rattle.sys_faults.specs.declared.answers.Answer.TheVariants as system_answers
 use Rattle.group_model.specs.declared.asking.Asked.{Asked}
 use Rattle.group_model.specs.declared.events.GroupAnswer.{GroupAnswer}
 use Rattle.group_model.specs.declared.events.GroupAnswer.TheVariants as answers
 use Rattle.link_session.specs.Amid.{Grows, IsAmid, Steps, amid_grows, begins, ends, ends_waiting, goes_on}
-use Rattle.link_session.specs.Ports.{linked, step}
+use Rattle.link_session.specs.Ports.{Replying, linked, step}
 use Rattle.script_groups.specs.Groups.{Placed, acted, machine_of, placed, turn}
 use Rattle.script_world.specs.World.{World, host_clock, with_event}
 use Rattle.script_world.specs.Worlds.{HasTurnAt, IsShortAt}
 use Rattle.ft_world.specs.Links.{answered_by, ask_group, asked_event, group_keyed, world_port}
 use Rattle.ft_world.specs.Printed.{gives_of}
+use Rattle.ft_world.specs.declared.links.Said.{Said}
 use Rattle.ft_world.specs.Serving.{AnsweredBy, AreInForm, Asks, IsAsked, IsChange, IsInForm, IsServed, IsWithin}
 use Rattle.world_turns.specs.Turns.{Effect, effect, says}
 use Rattle.ft_world.proofs.CallLemmas.{get_set}
@@ -89,38 +89,38 @@ can_be_sent refs shown g version body sound there order =
 -- ---- a request at a group
 
 -- servant calls are those so far and these
-counts : (e : Effect) (w : World) (host : ℕ) (g : ScriptGroup) (gives : Option Par) (calls : ℕ) (a : GroupAnswer) →
-    (answered_by e w host g gives calls a).effect.calls ≡ e.calls + calls
-counts e w host g gives calls (answers.Reply decision None out) = refl
-counts e w host g gives calls (answers.Reply decision (Some answer) out) = refl
-counts e w host g gives calls (answers.Known version) = refl
-counts e w host g gives calls (answers.Applied n) = refl
-counts e w host g gives calls (answers.Held n) = refl
-counts e w host g gives calls (answers.Ignored cause) = refl
-counts e w host g gives calls (answers.Taken from position out) = refl
-counts e w host g gives calls (answers.Changed view out) = refl
-counts e w host g gives calls (answers.Refused fault) = refl
-counts e w host g gives calls answers.LogFault = refl
-counts e w host g gives calls answers.Down = refl
-counts e w host g gives calls answers.Up = refl
-counts e w host g gives calls answers.NoMemory = refl
+counts : (e : Effect) (w : World) (host : ℕ) (g : ScriptGroup) (gives : Option Par) (reply : Replying) (calls : ℕ) (a : GroupAnswer) →
+    (answered_by e w host g gives reply calls a).calls ≡ e.calls + calls
+counts e w host g gives reply calls (answers.Reply decision None out) = refl
+counts e w host g gives reply calls (answers.Reply decision (Some answer) out) = refl
+counts e w host g gives reply calls (answers.Known version) = refl
+counts e w host g gives reply calls (answers.Applied n) = refl
+counts e w host g gives reply calls (answers.Held n) = refl
+counts e w host g gives reply calls (answers.Ignored cause) = refl
+counts e w host g gives reply calls (answers.Taken from position out) = refl
+counts e w host g gives reply calls (answers.Changed view out) = refl
+counts e w host g gives reply calls (answers.Refused fault) = refl
+counts e w host g gives reply calls answers.LogFault = refl
+counts e w host g gives reply calls answers.Down = refl
+counts e w host g gives reply calls answers.Up = refl
+counts e w host g gives reply calls answers.NoMemory = refl
 
 -- of the effects so far only the lines and the servant calls count
-same_so_far : (u v w : World) (report : List ReportLine) (so_far : ℕ) (host : ℕ) (g : ScriptGroup) (gives : Option Par) (calls : ℕ) (a : GroupAnswer) →
-    answered_by (effect u report so_far) w host g gives calls a ≡ answered_by (effect v report so_far) w host g gives calls a
-same_so_far u v w report so_far host g gives calls (answers.Reply decision None out) = refl
-same_so_far u v w report so_far host g gives calls (answers.Reply decision (Some answer) out) = refl
-same_so_far u v w report so_far host g gives calls (answers.Known version) = refl
-same_so_far u v w report so_far host g gives calls (answers.Applied n) = refl
-same_so_far u v w report so_far host g gives calls (answers.Held n) = refl
-same_so_far u v w report so_far host g gives calls (answers.Ignored cause) = refl
-same_so_far u v w report so_far host g gives calls (answers.Taken from position out) = refl
-same_so_far u v w report so_far host g gives calls (answers.Changed view out) = refl
-same_so_far u v w report so_far host g gives calls (answers.Refused fault) = refl
-same_so_far u v w report so_far host g gives calls answers.LogFault = refl
-same_so_far u v w report so_far host g gives calls answers.Down = refl
-same_so_far u v w report so_far host g gives calls answers.Up = refl
-same_so_far u v w report so_far host g gives calls answers.NoMemory = refl
+same_so_far : (u v w : World) (report : List ReportLine) (so_far : ℕ) (host : ℕ) (g : ScriptGroup) (gives : Option Par) (reply : Replying) (calls : ℕ) (a : GroupAnswer) →
+    answered_by (effect u report so_far) w host g gives reply calls a ≡ answered_by (effect v report so_far) w host g gives reply calls a
+same_so_far u v w report so_far host g gives reply calls (answers.Reply decision None out) = refl
+same_so_far u v w report so_far host g gives reply calls (answers.Reply decision (Some answer) out) = refl
+same_so_far u v w report so_far host g gives reply calls (answers.Known version) = refl
+same_so_far u v w report so_far host g gives reply calls (answers.Applied n) = refl
+same_so_far u v w report so_far host g gives reply calls (answers.Held n) = refl
+same_so_far u v w report so_far host g gives reply calls (answers.Ignored cause) = refl
+same_so_far u v w report so_far host g gives reply calls (answers.Taken from position out) = refl
+same_so_far u v w report so_far host g gives reply calls (answers.Changed view out) = refl
+same_so_far u v w report so_far host g gives reply calls (answers.Refused fault) = refl
+same_so_far u v w report so_far host g gives reply calls answers.LogFault = refl
+same_so_far u v w report so_far host g gives reply calls answers.Down = refl
+same_so_far u v w report so_far host g gives reply calls answers.Up = refl
+same_so_far u v w report so_far host g gives reply calls answers.NoMemory = refl
 
 -- an outcome of the operation that was asked is given in form
 given_in_form : (o : Option Signature) (outcome : Outcome) → IsGivenAs o outcome → CanGive (gives_of o) outcome
@@ -155,12 +155,12 @@ replies_in_form law g host clock asked stop gives answers.Down is sound may told
 replies_in_form law g host clock asked stop gives answers.Up is sound may told = tt
 replies_in_form law g host clock asked stop gives answers.NoMemory is sound may told = tt
 
-pub ask_counts : (e : Effect) (host : ℕ) (asked : Asked) (p : Placed ScriptGroup) →
-    (ask_group e host asked (Some p)).effect.calls ≡ e.calls + (turn p.value (asked_event e.world host asked)).calls
-ask_counts e host asked p =
+pub ask_counts : (e : Effect) (host : ℕ) (asked : Asked) (reply : Replying) (p : Placed ScriptGroup) →
+    (ask_group e host asked reply (Some p)).calls ≡ e.calls + (turn p.value (asked_event e.world host asked)).calls
+ask_counts e host asked reply p =
     let event = asked_event e.world host asked in
     let t = turn p.value event in
-    counts e (with_event e.world p.place p.value event) host (acted p.value event) (gives_of (signature_asked (machine_of p.value) asked.op)) t.calls t.answer
+    counts e (with_event e.world p.place p.value event) host (acted p.value event) (gives_of (signature_asked (machine_of p.value) asked.op)) reply t.calls t.answer
 
 -- a request at a group of a world, as its event in code
 module _ (w later : World) (place : ℕ) (g : ScriptGroup) (host : HostNo) (clock : Tick) (asked : Asked) (before between : ℕ)
@@ -190,11 +190,11 @@ module _ (w later : World) (place : ℕ) (g : ScriptGroup) (host : HostNo) (cloc
       (get_set w.groups place (acted g event_of) g there)
 
   -- and was answered
-  pub asked_at : (a : GroupAnswer) (gives : Option Par) (answer : PortAnswer) (new : World) (report after : List ReportLine) →
+  pub asked_at : (a : GroupAnswer) (gives : Option Par) (said : Said) (new : World) (report after : List ReportLine) →
       HasTurnAt w place event_of a later before between → gives ≡ gives_of (signature_asked (machine_of g) asked.op) →
-      AnsweredBy (acted g event_of) host.0 gives a (Ok answer) later new report after →
-      IsAsked (λ e. ask_group e host.0 asked (Some (placed place g))) answer w new report after before between
-  asked_at a gives answer new report after it gives_is by =
+      AnsweredBy (acted g event_of) host.0 gives a (Ok said) later new report after →
+      IsAsked (λ e reply. ask_group e host.0 asked reply (Some (placed place g))) said w new report after before between
+  asked_at a gives said new report after it gives_is by =
       let had = had_turn a it in
       let e : Event = asked_event w host.0 asked in
       let calls : ℕ = (turn g e).calls in
@@ -202,39 +202,39 @@ module _ (w later : World) (place : ℕ) (g : ScriptGroup) (host : HostNo) (cloc
       let told : (turn g e).answer ≡ a = ap (λ (x : Event). (turn g x).answer) (sym event_is) ∙ had.1.0 in
       record {
         calls = calls;
-        is = λ so_far.
-            ap (λ (b : GroupAnswer). answered_by (effect w report so_far) (with_event w place g e) host.0 (acted g e) (gives_of (signature_asked (machine_of g) asked.op)) calls b) told
-            ∙ ap (λ (o : Option Par). answered_by (effect w report so_far) (with_event w place g e) host.0 (acted g e) o calls a) (sym gives_is)
-            ∙ ap (λ (v : World). answered_by (effect w report so_far) v host.0 (acted g e) gives calls a) (sym behind)
-            ∙ ap (λ (x : Event). answered_by (effect w report so_far) later host.0 (acted g x) gives calls a) (sym event_is)
-            ∙ same_so_far w later later report so_far host.0 (acted g event_of) gives calls a
-            ∙ by.0 so_far calls;
+        is = λ so_far reply.
+            ap (λ (b : GroupAnswer). answered_by (effect w report so_far) (with_event w place g e) host.0 (acted g e) (gives_of (signature_asked (machine_of g) asked.op)) reply calls b) told
+            ∙ ap (λ (o : Option Par). answered_by (effect w report so_far) (with_event w place g e) host.0 (acted g e) o reply calls a) (sym gives_is)
+            ∙ ap (λ (v : World). answered_by (effect w report so_far) v host.0 (acted g e) gives reply calls a) (sym behind)
+            ∙ ap (λ (x : Event). answered_by (effect w report so_far) later host.0 (acted g x) gives reply calls a) (sym event_is)
+            ∙ same_so_far w later later report so_far host.0 (acted g event_of) gives reply calls a
+            ∙ by.0 so_far calls reply;
         counted = had.1.1 ∙ ap (λ (x : Event). before + (turn g x).calls) event_is;
         can = by.1;
       }
 
   -- no memory for it
-  pub short_at : (report : List ReportLine) → IsShortAt w place event_of before between → (so_far : ℕ) →
-      so_far + between ≤ before + (ask_group (effect w report so_far) host.0 asked (Some (placed place g))).effect.calls
-  short_at report it so_far =
+  pub short_at : (report : List ReportLine) → IsShortAt w place event_of before between → (so_far : ℕ) (reply : Replying) →
+      so_far + between ≤ before + (ask_group (effect w report so_far) host.0 asked reply (Some (placed place g))).calls
+  short_at report it so_far reply =
       let same : it.group ≡ g = same_some it.group g (sym it.there ∙ there) in
       let calls : between ≤ before + (turn g (asked_event w host.0 asked)).calls =
       subst (λ (x : Event). between ≤ before + (turn g x).calls) event_is (subst (λ (s : ScriptGroup). between ≤ before + (turn s event_of).calls) same it.calls) in
-      omega (arith, calls, ask_counts (effect w report so_far) host.0 asked (placed place g))
+      omega (arith, calls, ask_counts (effect w report so_far) host.0 asked reply (placed place g))
 
   -- memory was wanted behind it
-  pub stopped_at : (a : GroupAnswer) (report : List ReportLine) → HasTurnAt w place event_of a later before between → (so_far : ℕ) →
-      so_far + between ≤ before + (ask_group (effect w report so_far) host.0 asked (Some (placed place g))).effect.calls
-  stopped_at a report it so_far =
+  pub stopped_at : (a : GroupAnswer) (report : List ReportLine) → HasTurnAt w place event_of a later before between → (so_far : ℕ) (reply : Replying) →
+      so_far + between ≤ before + (ask_group (effect w report so_far) host.0 asked reply (Some (placed place g))).calls
+  stopped_at a report it so_far reply =
       let calls : between ≡ before + (turn g (asked_event w host.0 asked)).calls =
       (had_turn a it).1.1 ∙ ap (λ (x : Event). before + (turn g x).calls) event_is in
-      omega (arith, calls, ask_counts (effect w report so_far) host.0 asked (placed place g))
+      omega (arith, calls, ask_counts (effect w report so_far) host.0 asked reply (placed place g))
 
-  pub asks_at : (a : GroupAnswer) (gives : Option Par) (result : Result PortAnswer NoMemory) (new : World) (report after : List ReportLine) →
+  pub asks_at : (a : GroupAnswer) (gives : Option Par) (result : Result Said NoMemory) (new : World) (report after : List ReportLine) →
       HasTurnAt w place event_of a later before between → gives ≡ gives_of (signature_asked (machine_of g) asked.op) →
       AnsweredBy (acted g event_of) host.0 gives a result later new report after →
-      Asks (λ e. ask_group e host.0 asked (Some (placed place g))) result w new report after before between
-  asks_at a gives (Ok answer) new report after it gives_is by = asked_at a gives answer new report after it gives_is by
+      Asks (λ e reply. ask_group e host.0 asked reply (Some (placed place g))) result w new report after before between
+  asks_at a gives (Ok said) new report after it gives_is by = asked_at a gives said new report after it gives_is by
   asks_at a gives (Err why) new report after it gives_is by = stopped_at a report it
 
 -- ---- servant calls only get more along a link
@@ -242,15 +242,15 @@ module _ (w later : World) (place : ℕ) (g : ScriptGroup) (host : HostNo) (cloc
 abbrev pub NoFewer : Effect → Effect → Type 0
 NoFewer e f = e.calls ≤ f.calls
 
-asks_more : (e : Effect) (host : ℕ) (asked : Asked) (o : Option (Placed ScriptGroup)) → e.calls ≤ (ask_group e host asked o).effect.calls
-asks_more e host asked None = omega arith
-asks_more e host asked (Some p) = omega (arith, ask_counts e host asked p)
+asks_more : (e : Effect) (host : ℕ) (asked : Asked) (reply : Replying) (o : Option (Placed ScriptGroup)) → e.calls ≤ (ask_group e host asked reply o).calls
+asks_more e host asked reply None = omega arith
+asks_more e host asked reply (Some p) = omega (arith, ask_counts e host asked reply p)
 
 pub calls_grow : (host : ℕ) → Grows (world_port host) NoFewer
 calls_grow host = record {
   same = λ (p : Effect). omega arith;
   next = λ (p q r : Effect) (a : NoFewer p q) (b : NoFewer q r). omega (arith, a, b);
-  asks = λ (p : Effect) (key : List ℕ) (asked : Asked). asks_more p host asked (group_keyed p.world key);
+  asks = λ (p : Effect) (key : List ℕ) (asked : Asked) (reply : Replying). asks_more p host asked reply (group_keyed p.world key);
   writes = λ (p : Effect) (bytes : List ℕ). omega arith;
 }
 

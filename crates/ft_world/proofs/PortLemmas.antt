@@ -12,13 +12,15 @@ use Rattle.group_model.specs.declared.asking.Asked.{Asked}
 use Rattle.group_model.specs.Views.{host_no}
 use Rattle.host_server.specs.declared.answers.PortAnswer.{PortAnswer}
 use Rattle.host_server.specs.declared.answers.PortAnswer.TheVariants as port_answers
-use Rattle.link_session.specs.Ports.{called, end_error, linked, locate_reply_of, reply_of, writes}
+use Rattle.host_server.specs.Replies.{CanReply}
+use Rattle.link_session.specs.Ports.{Replying, called, end_error, linked, locate_reply_of, reply_of, writes}
 use Rattle.link_session.specs.declared.calls.Calling.{Calling}
 use Rattle.link_session.specs.declared.calls.Calling.TheVariants.{Ask, Locate, Nothing}
 use Rattle.script_groups.specs.Groups.{ScriptGroup, Placed}
 use Rattle.script_world.specs.World.{World, is_there, is_up}
 use Rattle.world_turns.specs.Answers.{HasDone, calls_of}
-use Rattle.ft_world.specs.Links.{Asking, ask_group, asking, bytes_lines, end_line, group_keyed, inject_line, is_here, link_of, with_end, world_port}
+use Rattle.ft_world.specs.Links.{ask_group, bytes_lines, end_line, group_keyed, inject_line, is_here, link_of, with_end, world_port}
+use Rattle.ft_world.specs.declared.links.Said.{Said}
 use Rattle.ft_world.specs.Serving.{Asks, Changes, IsAsked, IsChange, IsServed, IsWithin}
 use Rattle.world_turns.specs.Turns.{Effect, Turn, Goes, cause, effect, first_cause, goes, says, unless}
 use Rattle.ft_world.proofs.LinkLemmas.{calls_grow}
@@ -27,29 +29,39 @@ use Rattle.world_turns.specs.Doing.{acts_by}
 -- ---- a request for the object of a key
 
 module _ (w new : World) (host : ℕ) (key : List ℕ) (asked : Asked) (report after : List ReportLine) (before now : ℕ) where
-  pub asks_keyed : (o : Option (Placed ScriptGroup)) (result : Result PortAnswer NoMemory) → group_keyed w key ≡ o →
-      Asks (λ e. ask_group e host asked o) result w new report after before now →
-      Asks (λ e. ask_group e host asked (group_keyed e.world key)) result w new report after before now
-  asks_keyed o (Ok answer) is a = record {
+  pub asks_keyed : (o : Option (Placed ScriptGroup)) (result : Result Said NoMemory) → group_keyed w key ≡ o →
+      Asks (λ e reply. ask_group e host asked reply o) result w new report after before now →
+      Asks (λ e reply. ask_group e host asked reply (group_keyed e.world key)) result w new report after before now
+  asks_keyed o (Ok said) is a = record {
     calls = a.calls;
-    is = λ so_far. ap (ask_group (effect w report so_far) host asked) is ∙ a.is so_far;
+    is = λ so_far reply. ap (ask_group (effect w report so_far) host asked reply) is ∙ a.is so_far reply;
     counted = a.counted;
     can = a.can;
   }
-  asks_keyed o (Err why) is a = λ so_far.
-      subst (λ (x : Option (Placed ScriptGroup)). so_far + now ≤ before + (ask_group (effect w report so_far) host asked x).effect.calls) (sym is) (a so_far)
+  asks_keyed o (Err why) is a = λ so_far reply.
+      subst (λ (x : Option (Placed ScriptGroup)). so_far + now ≤ before + (ask_group (effect w report so_far) host asked reply x).calls) (sym is) (a so_far reply)
+
+join : (xs ys zs : List ReportLine) → (xs ++ ys) ++ zs ≡ xs ++ (ys ++ zs)
+join [] ys zs = refl
+join (x ∷ xs) ys zs = ap (λ (ls : List ReportLine). x ∷ ls) (join xs ys zs)
 
 -- no group has this key
-pub none_asked : (w : World) (host : ℕ) (key : List ℕ) (asked : Asked) (report after : List ReportLine) (now : ℕ) → group_keyed w key ≡ None →
-    after ≡ report ++ reports.NoGroup (host_no host) ∷ [] →
-    IsAsked (λ e. ask_group e host asked (group_keyed e.world key)) port_answers.NoGroup w w report after now now
-none_asked w host key asked report after now none are = record {
+pub none_asked : (w : World) (host : ℕ) (key : List ℕ) (asked : Asked) (said : Said) (report after : List ReportLine) (now : ℕ) → group_keyed w key ≡ None →
+    said.answer ≡ port_answers.NoGroup → said.orders ≡ [] → after ≡ report ++ reports.NoGroup (host_no host) ∷ [] →
+    IsAsked (λ e reply. ask_group e host asked reply (group_keyed e.world key)) said w w report after now now
+none_asked w host key asked said report after now none answer orders are = record {
   calls = 0;
-  is = λ so_far.
-      ap (ask_group (effect w report so_far) host asked) none
-      ∙ ap (λ (ls : List ReportLine). asking (effect w ls (so_far + 0)) port_answers.NoGroup) (sym are);
+  is = λ so_far reply.
+      let line : ReportLine = reports.NoGroup (host_no host) in
+      let written : List ReportLine = bytes_lines (reply port_answers.NoGroup) in
+      ap (ask_group (effect w report so_far) host asked reply) none
+      ∙ ap (λ (ls : List ReportLine). effect w (report ++ line ∷ ls) (so_far + 0)) (sym (append-nil written))
+      ∙ ap (λ (ls : List ReportLine). effect w ls (so_far + 0)) (sym (join report (line ∷ []) (written ++ [])))
+      ∙ ap (λ (ls : List ReportLine). effect w (ls ++ (written ++ [])) (so_far + 0)) (sym are)
+      ∙ ap (λ (ls : List ReportLine). effect w (after ++ (written ++ ls)) (so_far + 0)) (sym orders)
+      ∙ ap (λ (a : PortAnswer). effect w (after ++ (bytes_lines (reply a) ++ said.orders)) (so_far + 0)) (sym answer);
   counted = omega arith;
-  can = λ order. tt;
+  can = λ order. subst (λ (a : PortAnswer). CanReply order a) (sym answer) tt;
 }
 
 -- ---- what is written
@@ -59,57 +71,44 @@ pub written_is : (host : ℕ) (w : World) (lines : List ReportLine) (calls : ℕ
 written_is host w lines calls None = ap (λ (ls : List ReportLine). effect w ls calls) (sym (append-nil lines))
 written_is host w lines calls (Some bytes) = ap (λ (n : ℕ). effect w (lines ++ reports.Bytes bytes ∷ []) n) (let same : calls + 0 ≡ calls = omega arith in same)
 
-pub writes_calls : (host : ℕ) (e : Effect) (bytes : Option (List ℕ)) → (writes (world_port host) e bytes).calls ≡ e.calls
-writes_calls host e None = refl
-writes_calls host e (Some bytes) = omega arith
-
 -- ---- what a message calls for
 
 module _ (w : World) (host : ℕ) (order : Order) (report : List ReportLine) (before : ℕ) where
   module _ (id flags : ℕ) (key : List ℕ) (asked : Asked) where
-    -- the calls of a request are those of what it asks
-    ask_calls : (so_far : ℕ) →
-        (called (world_port host) (effect w report so_far) order (Ask id flags key asked)).calls
-        ≡ (ask_group (effect w report so_far) host asked (group_keyed w key)).effect.calls
-    ask_calls so_far =
-        let a : Asking = ask_group (effect w report so_far) host asked (group_keyed w key) in
-        writes_calls host a.effect (reply_of id flags order a.answer)
-
     -- it was asked and answered, and this was written
-    pub ask_changes : (answer : PortAnswer) (new : World) (mid after : List ReportLine) (now : ℕ) (bytes : Option (List ℕ)) →
-        IsAsked (λ e. ask_group e host asked (group_keyed e.world key)) answer w new report mid before now →
-        bytes ≡ reply_of id flags order answer → after ≡ mid ++ bytes_lines bytes →
+    pub ask_changes : (said : Said) (new : World) (mid after : List ReportLine) (now : ℕ) (bytes : Option (List ℕ)) →
+        IsAsked (λ e reply. ask_group e host asked reply (group_keyed e.world key)) said w new report mid before now →
+        bytes ≡ reply_of id flags order said.answer → after ≡ mid ++ (bytes_lines bytes ++ said.orders) →
         IsChange (λ e. called (world_port host) e order (Ask id flags key asked)) w new report after before now
-    ask_changes answer new mid after now bytes a are lines = record {
+    ask_changes said new mid after now bytes a are lines = record {
       calls = a.calls;
       is = λ so_far.
-          ap (λ (x : Asking). writes (world_port host) x.effect (reply_of id flags order x.answer)) (a.is so_far)
-          ∙ ap (λ (x : Option (List ℕ)). writes (world_port host) (effect new mid (so_far + a.calls)) x) (sym are)
-          ∙ written_is host new mid (so_far + a.calls) bytes
+          a.is so_far (reply_of id flags order)
+          ∙ ap (λ (x : Option (List ℕ)). effect new (mid ++ (bytes_lines x ++ said.orders)) (so_far + a.calls)) (sym are)
           ∙ ap (λ (ls : List ReportLine). effect new ls (so_far + a.calls)) (sym lines);
       counted = a.counted;
     }
 
     -- memory was wanted in it
     pub ask_short : (now : ℕ) →
-        ((so_far : ℕ) → so_far + now ≤ before + (ask_group (effect w report so_far) host asked (group_keyed w key)).effect.calls) →
+        ((so_far : ℕ) (reply : Replying) → so_far + now ≤ before + (ask_group (effect w report so_far) host asked reply (group_keyed w key)).calls) →
         IsWithin (λ e. called (world_port host) e order (Ask id flags key asked)) w report before now
-    ask_short now short = λ so_far. omega (arith, short so_far, ask_calls so_far)
+    ask_short now short = λ so_far. short so_far (reply_of id flags order)
 
     -- memory was wanted behind it
-    pub ask_stopped : (answer : PortAnswer) (new : World) (mid : List ReportLine) (now : ℕ) →
-        IsAsked (λ e. ask_group e host asked (group_keyed e.world key)) answer w new report mid before now →
+    pub ask_stopped : (said : Said) (new : World) (mid : List ReportLine) (now : ℕ) →
+        IsAsked (λ e reply. ask_group e host asked reply (group_keyed e.world key)) said w new report mid before now →
         IsWithin (λ e. called (world_port host) e order (Ask id flags key asked)) w report before now
-    ask_stopped answer new mid now a = λ so_far.
-        omega (arith, a.counted, ask_calls so_far, ap (λ (x : Asking). x.effect.calls) (a.is so_far))
+    ask_stopped said new mid now a = λ so_far.
+        omega (arith, a.counted, ap (λ (e : Effect). e.calls) (a.is so_far (reply_of id flags order)))
 
     -- and then, whether or not there was memory to write it
-    pub ask_pushed : (answer : PortAnswer) (new : World) (mid after : List ReportLine) (now : ℕ) (bytes : Option (List ℕ)) (result : Result (Unit {0}) NoMemory) →
-        IsAsked (λ e. ask_group e host asked (group_keyed e.world key)) answer w new report mid before now →
-        bytes ≡ reply_of id flags order answer → OnOk result (after ≡ mid ++ bytes_lines bytes) →
+    pub ask_pushed : (said : Said) (new : World) (mid after : List ReportLine) (now : ℕ) (bytes : Option (List ℕ)) (result : Result (Unit {0}) NoMemory) →
+        IsAsked (λ e reply. ask_group e host asked reply (group_keyed e.world key)) said w new report mid before now →
+        bytes ≡ reply_of id flags order said.answer → OnOk result (after ≡ mid ++ (bytes_lines bytes ++ said.orders)) →
         Changes (λ e. called (world_port host) e order (Ask id flags key asked)) result w new report after before now
-    ask_pushed answer new mid after now bytes (Ok u) a are lines = ask_changes answer new mid after now bytes a are lines
-    ask_pushed answer new mid after now bytes (Err why) a are lines = ask_stopped answer new mid now a
+    ask_pushed said new mid after now bytes (Ok u) a are lines = ask_changes said new mid after now bytes a are lines
+    ask_pushed said new mid after now bytes (Err why) a are lines = ask_stopped said new mid now a
 
   pub locate_changes : (id : ℕ) (key bytes : List ℕ) (here : Bool) (after : List ReportLine) → here ≡ is_here host (group_keyed w key) →
       bytes ≡ locate_reply_of id order here → after ≡ report ++ reports.Bytes bytes ∷ [] →
@@ -125,7 +124,7 @@ module _ (w : World) (host : ℕ) (order : Order) (report : List ReportLine) (be
 
   -- nothing was done yet
   pub none_called : (calling : Calling) → IsWithin (λ e. called (world_port host) e order calling) w report before before
-  none_called (Ask id flags key asked) = λ so_far. omega (arith, ask_calls id flags key asked so_far, (calls_grow host).asks (effect w report so_far) key asked)
+  none_called (Ask id flags key asked) = λ so_far. omega (arith, (calls_grow host).asks (effect w report so_far) key asked (reply_of id flags order))
   none_called (Locate id key) = λ so_far. omega arith
   none_called Nothing = λ so_far. omega arith
 

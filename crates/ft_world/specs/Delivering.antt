@@ -35,7 +35,7 @@ use Rattle.world_management.specs.Hosts.{stopped}
 use Rattle.ft_world.specs.Links.{port_answer}
 use Rattle.ft_world.specs.Printed.{gives_of, shown}
 use Rattle.message_sizes.specs.Sizes.{answer_size}
-use Rattle.world_turns.specs.Sending.{all_carried, sent_lines}
+use Rattle.world_turns.specs.Sending.{all_sent, sent_lines}
 use Rattle.script_world.specs.World.{World, counted, host_clock, is_up, message_numbered, with_client, with_event, with_messages}
 use Rattle.host_server.specs.Replies.{no_group}
 use Rattle.world_monitors.specs.Arriving.{ping_comes, pong_comes}
@@ -85,7 +85,7 @@ replied w a answer =
 -- what the host made of it: it replies and sends its orders, or it stops, or it is down
 abbrev pub answered : World → ℕ → Asker → GroupAnswer → Effect
 answered w k a (group_answers.Reply decision (Some answer) out) =
-    says (with_messages (replied w a answer) (all_carried a.group out))
+    says (all_sent (replied w a answer) a.group out)
     (reports.At a.host a.group_name decision
     ∷ reports.Reply (length w.messages + 1) a.host a.client_name a.id (shown a.group_name a.gives answer)
     ∷ sent_lines (length w.messages + 2) a.group_name a.host out)

@@ -20,15 +20,15 @@ use Rattle.host_server.specs.declared.answers.PortAnswer.{PortAnswer}
 use Rattle.host_server.specs.declared.answers.PortAnswer.TheVariants as port_answers
 use Rattle.iogr_reference.specs.Choices.{group_of_key}
 use Rattle.iogr_reference.specs.declared.references.Ior.{Ior}
-use Rattle.link_session.specs.Ports.{Port, linked}
+use Rattle.link_session.specs.Ports.{Port, Replying, linked}
 use Rattle.sys_faults.specs.declared.answers.Answer.{Answer}
 use Rattle.sys_faults.specs.declared.answers.Answer.TheVariants as answers
 use Rattle.script_groups.specs.Groups.{ScriptGroup, Placed, acted, knows_as_member, machine_of, turn}
 use Rattle.script_groups.specs.References.{ior_at}
 use Rattle.world_management.specs.Hosts.{host_causes}
 use Rattle.ft_world.specs.Printed.{gives_of}
-use Rattle.world_turns.specs.Sending.{all_carried, sent_lines}
-use Rattle.script_world.specs.World.{World, host_clock, is_up, with_event, with_messages}
+use Rattle.world_turns.specs.Sending.{all_sent, sent_lines}
+use Rattle.script_world.specs.World.{World, host_clock, is_up, with_event}
 use Rattle.world_turns.specs.Naming.{group_with_number, there_only}
 use Rattle.world_turns.specs.Turns.{Effect, Turn, effect, first_cause, goes, says, unless}
 
@@ -56,35 +56,34 @@ port_answer g gives (answers.ForwardPerm version) = forward_by true (ior_at g ve
 
 -- ---- the world as a port
 
--- what is printed, and what the host says; the host is up, and doesn't stop
-pub record Asking : Type 0 where
-  pub effect : Effect
-  pub answer : PortAnswer
-
-abbrev pub asking : Effect → PortAnswer → Asking
-asking e answer = record { effect = e; answer = answer }
+-- what is printed of the bytes that a host writes
+abbrev pub bytes_lines : Option (List ℕ) → List ReportLine
+bytes_lines None = []
+bytes_lines (Some bytes) = reports.Bytes bytes ∷ []
 
 -- these lines, messages and servant calls behind those so far
 abbrev pub further : Effect → World → List ReportLine → ℕ → Effect
 further e w lines calls = effect w (e.lines ++ lines) (e.calls + calls)
 
-abbrev pub answered_by : Effect → World → ℕ → ScriptGroup → Option Par → ℕ → GroupAnswer → Asking
-answered_by e w host g gives calls (group_answers.Reply decision (Some answer) out) =
-    asking (further e (with_messages w (all_carried g.id out))
-    (reports.At (host_no host) g.name decision ∷ sent_lines (length w.messages + 1) g.name (host_no host) out) calls)
-    (port_answer g gives answer)
-answered_by e w host g gives calls other = asking (further e w [] calls) port_answers.NoGroup
+-- what the host made of a request, its answer as it is written, and then what goes to other members; the host is up,
+-- and doesn't stop
+abbrev pub answered_by : Effect → World → ℕ → ScriptGroup → Option Par → Replying → ℕ → GroupAnswer → Effect
+answered_by e w host g gives reply calls (group_answers.Reply decision (Some answer) out) =
+    further e (all_sent w g.id out)
+    (reports.At (host_no host) g.name decision
+    ∷ bytes_lines (reply (port_answer g gives answer)) ++ sent_lines (length w.messages + 1) g.name (host_no host) out) calls
+answered_by e w host g gives reply calls other = further e w (bytes_lines (reply port_answers.NoGroup)) calls
 
 abbrev pub asked_event : World → ℕ → Asked → Event
 asked_event w host asked = events.Request (host_no host) (record { 0 = host_clock w host }) asked Never
 
-abbrev pub ask_group : Effect → ℕ → Asked → Option (Placed ScriptGroup) → Asking
-ask_group e host asked None = asking (further e e.world (reports.NoGroup (host_no host) ∷ []) 0) port_answers.NoGroup
-ask_group e host asked (Some g) =
+abbrev pub ask_group : Effect → ℕ → Asked → Replying → Option (Placed ScriptGroup) → Effect
+ask_group e host asked reply None = further e e.world (reports.NoGroup (host_no host) ∷ bytes_lines (reply port_answers.NoGroup)) 0
+ask_group e host asked reply (Some g) =
     let event = asked_event e.world host asked in
     let t = turn g.value event in
     answered_by e (with_event e.world g.place g.value event) host (acted g.value event)
-    (gives_of (signature_asked (machine_of g.value) asked.op)) t.calls t.answer
+    (gives_of (signature_asked (machine_of g.value) asked.op)) reply t.calls t.answer
 
 -- a host has the object where it is a member of the view that it knows
 abbrev pub is_here : ℕ → Option (Placed ScriptGroup) → Bool
@@ -94,20 +93,12 @@ is_here host (Some g) = knows_as_member g.value host
 abbrev pub written : Effect → List ℕ → Effect
 written e bytes = further e e.world (reports.Bytes bytes ∷ []) 0
 
-abbrev pub pair_of : Asking → Effect × PortAnswer
-pair_of a = (a.effect, a.answer)
-
 abbrev pub world_port : ℕ → Port Effect
 world_port host = record {
-  ask = λ e key asked. pair_of (ask_group e host asked (group_keyed e.world key));
+  ask = λ e key asked reply. ask_group e host asked reply (group_keyed e.world key);
   here = λ e key. is_here host (group_keyed e.world key);
   write = written;
 }
-
--- what is printed of the bytes that a host writes
-abbrev pub bytes_lines : Option (List ℕ) → List ReportLine
-bytes_lines None = []
-bytes_lines (Some bytes) = reports.Bytes bytes ∷ []
 
 -- ---- the line
 

@@ -41,6 +41,24 @@ use std::sync::ledger::Ledger;
 use sys_faults::Answer;
 use world_turns::{Named, group_with_number, one_line, send_all};
 
+/// What a host says to a request, and what is printed behind that: what goes to other members.
+#[derive(Drop)]
+pub struct Said {
+    pub answer: PortAnswer,
+    pub orders: ReportLines,
+}
+
+// That there is no such object, and nothing behind it.
+fn no_object(alloc: Global) -> Said
+    ensures answer { result.answer ≡ PortAnswer.NoGroup }
+    ensures orders { result.orders ≡ [] }
+{
+    Said {
+        answer: PortAnswer::NoGroup,
+        orders: ReportLines::new(alloc),
+    }
+}
+
 fn push_bytes(bytes: Option<Bytes>, report: &mut ReportLines) -> Result<(), NoMemory>
     ensures { OnOk result (report.new ≡ report.old ++ bytes_lines bytes) }
 {
@@ -48,6 +66,18 @@ fn push_bytes(bytes: Option<Bytes>, report: &mut ReportLines) -> Result<(), NoMe
         None => Ok(()),
         Some(bytes) => report.push(ReportLine::Bytes(bytes)),
     }
+}
+
+// An answer as it is written, and what stands behind it.
+fn push_answer(
+    bytes: Option<Bytes>,
+    orders: ReportLines,
+    report: &mut ReportLines,
+) -> Result<(), NoMemory>
+    ensures { OnOk result (report.new ≡ report.old ++ (bytes_lines bytes ++ orders)) }
+{
+    push_bytes(bytes, report)?;
+    report.append(orders)
 }
 
 fn end_line(end: StreamEnd) -> ReportLine
@@ -135,7 +165,7 @@ fn answered(
     gives: Option<Par>,
     answer: GroupAnswer,
     report: &mut ReportLines,
-) -> Result<PortAnswer, NoMemory>
+) -> Result<Said, NoMemory>
     requires within { place < length world.old.groups }
     requires kept { IsKeptWorld world.old }
     requires form { AreInForm gives answer }
@@ -143,18 +173,18 @@ fn answered(
     ensures is { (g : Group) → slice_get world.old.groups place ≡ Some g → AnsweredBy g host.0 gives answer result world.old world.new report.old report.new }
     ensures kept { OnOk result (IsKeptWorld world.new) }
 {
+    let alloc = world.alloc();
     let GroupAnswer::Reply {
         decision,
         answer,
         out,
     } = answer
     else {
-        return Ok(PortAnswer::NoGroup);
+        return Ok(no_object(alloc));
     };
     let Some(answer) = answer else {
-        return Ok(PortAnswer::NoGroup);
+        return Ok(no_object(alloc));
     };
-    let alloc = world.alloc();
     let port = port_answer(world, place, gives, answer)?;
     let group = world.group(place).id();
     let name = world.group(place).name().copy(alloc)?;
@@ -164,8 +194,12 @@ fn answered(
         group: at,
         decision,
     })?;
-    send_all(world, report, group, &name, host, out)?;
-    Ok(port)
+    let mut orders = ReportLines::new(alloc);
+    send_all(world, &mut orders, group, &name, host, out)?;
+    Ok(Said {
+        answer: port,
+        orders,
+    })
 }
 
 // A request comes to the group at this place.
@@ -176,13 +210,13 @@ fn ask_at<L: Ledger>(
     asked: Asked,
     report: &mut ReportLines,
     steps: &mut Steps<L>,
-) -> Result<PortAnswer, NoMemory>
+) -> Result<Said, NoMemory>
     requires within { place < length world.old.groups }
     requires host { host.0 < HOST_LIMIT }
     requires short { IsShortAsked asked }
     requires kept { IsKeptWorld world.old }
     ensures asks { (g : Group) → slice_get world.old.groups place ≡ Some g →
-        Asks (λ e. ask_group e host.0 asked (Some (placed place g))) result world.old world.new report.old report.new steps.old steps.new }
+        Asks (λ e reply. ask_group e host.0 asked reply (Some (placed place g))) result world.old world.new report.old report.new steps.old steps.new }
     ensures kept { OnOk result (IsKeptWorld world.new) }
 {
     answers_are_in_form();
@@ -208,18 +242,18 @@ fn ask<L: Ledger>(
     asked: Asked,
     report: &mut ReportLines,
     steps: &mut Steps<L>,
-) -> Result<PortAnswer, NoMemory>
+) -> Result<Said, NoMemory>
     requires host { host.0 < HOST_LIMIT }
     requires short { IsShortAsked asked }
     requires kept { IsKeptWorld world.old }
-    ensures asks { Asks (λ e. ask_group e host.0 asked (group_keyed e.world key.now)) result world.old world.new report.old report.new steps.old steps.new }
+    ensures asks { Asks (λ e reply. ask_group e host.0 asked reply (group_keyed e.world key.now)) result world.old world.new report.old report.new steps.old steps.new }
     ensures kept { OnOk result (IsKeptWorld world.new) }
 {
     match keyed_place(world, key) {
         Some(place) => ask_at(world, place, host, asked, report, steps),
         None => {
             report.push(ReportLine::NoGroup { host })?;
-            Ok(PortAnswer::NoGroup)
+            Ok(no_object(world.alloc()))
         }
     }
 }
@@ -255,12 +289,12 @@ fn take_request<L: Ledger>(
     ensures kept { OnOk result (IsKeptWorld world.new) }
 {
     let alloc = world.alloc();
-    let answer = match ask(world, host, key, asked, report, steps) {
-        Ok(answer) => answer,
+    let Said { answer, orders } = match ask(world, host, key, asked, report, steps) {
+        Ok(said) => said,
         Err(NoMemory) => return Err(NoMemory),
     };
     match reply(alloc, id, flags, order, &answer) {
-        Ok(bytes) => push_bytes(bytes, report),
+        Ok(bytes) => push_answer(bytes, orders, report),
         Err(NoMemory) => Err(NoMemory),
     }
 }

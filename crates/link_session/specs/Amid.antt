@@ -8,11 +8,10 @@ use Rattle.giop_stream.specs.declared.sessions.StreamEnd.{StreamEnd}
 use Rattle.giop_stream.specs.Parts.{Received}
 use Rattle.giop_stream.specs.Sessions.{AreAll, Goes, Serves, Serving, Session, served_before, served_on, session}
 use Rattle.group_model.specs.declared.asking.Asked.{Asked}
-use Rattle.host_server.specs.declared.answers.PortAnswer.{PortAnswer}
 use Rattle.link_session.specs.declared.calls.Calling.{Calling}
 use Rattle.link_session.specs.declared.calls.Calling.TheVariants.{Ask, Locate, Nothing}
 use Rattle.link_session.specs.Calls.{calling_of}
-use Rattle.link_session.specs.Ports.{Port, called, end_error, ended, linked, locate_reply_of, reply_of, served, session_served, step, writes}
+use Rattle.link_session.specs.Ports.{Port, Replying, called, end_error, ended, linked, locate_reply_of, reply_of, served, session_served, step, writes}
 
 module _ {P : Type 0} (port : Port P) where
   -- ---- messages served one after another
@@ -92,7 +91,7 @@ module _ {P : Type 0} (port : Port P) where
   pub record Grows (R : P → P → Type 0) : Type 0 where
     pub same : (p : P) → R p p
     pub next : (p q r : P) → R p q → R q r → R p r
-    pub asks : (p : P) (key : List ℕ) (asked : Asked) → R p (port.ask p key asked).0
+    pub asks : (p : P) (key : List ℕ) (asked : Asked) (reply : Replying) → R p (port.ask p key asked reply)
     pub writes : (p : P) (bytes : List ℕ) → R p (port.write p bytes)
 
   module _ (R : P → P → Type 0) (g : Grows R) where
@@ -101,9 +100,7 @@ module _ {P : Type 0} (port : Port P) where
     writes_grow p (Some bytes) = g.writes p bytes
 
     called_grows : (p : P) (order : Order) (c : Calling) → R p (called port p order c)
-    called_grows p order (Ask id flags key asked) =
-        let a : P × PortAnswer = port.ask p key asked in
-        g.next p a.0 (writes port a.0 (reply_of id flags order a.1)) (g.asks p key asked) (writes_grow a.0 (reply_of id flags order a.1))
+    called_grows p order (Ask id flags key asked) = g.asks p key asked (reply_of id flags order)
     called_grows p order (Locate id key) = g.writes p (locate_reply_of id order (port.here p key))
     called_grows p order Nothing = g.same p
 

@@ -19,10 +19,14 @@ use Rattle.link_session.specs.declared.calls.Calling.{Calling}
 use Rattle.link_session.specs.declared.calls.Calling.TheVariants.{Ask, Locate, Nothing}
 use Rattle.link_session.specs.Calls.{calling_of}
 
+-- how an answer is written, if it is
+abbrev pub Replying : Type 0
+Replying = PortAnswer → Option (List ℕ)
+
 -- a host, as the functions of its owner's state that a link to it uses
 pub record Port (P : Type 0) : Type 0 where
-  -- a request with this object key comes: the state after it, and what it is answered
-  pub ask : P → List ℕ → Asked → P × PortAnswer
+  -- a request with this object key comes, and its answer is written so: the state after it
+  pub ask : P → List ℕ → Asked → Replying → P
   -- whether the object with this key is at the host
   pub here : P → List ℕ → Bool
   -- what becomes of bytes that the host writes on the link
@@ -63,15 +67,15 @@ end_error (TooLarge size) = Some message_error
 
 -- ---- what becomes of the host's owner
 
-abbrev pub writes : {P : Type 0} → Port P → P → Option (List ℕ) → P
-writes port p None = p
-writes port p (Some bytes) = port.write p bytes
+abbrev pub written_by : {P : Type 0} → (P → List ℕ → P) → P → Option (List ℕ) → P
+written_by write p None = p
+written_by write p (Some bytes) = write p bytes
 
-abbrev pub answered : {P : Type 0} → Port P → ℕ → ℕ → Order → P × PortAnswer → P
-answered port id flags order asked = writes port asked.0 (reply_of id flags order asked.1)
+abbrev pub writes : {P : Type 0} → Port P → P → Option (List ℕ) → P
+writes port p bytes = written_by port.write p bytes
 
 abbrev pub called : {P : Type 0} → Port P → P → Order → Calling → P
-called port p order (Ask id flags key asked) = answered port id flags order (port.ask p key asked)
+called port p order (Ask id flags key asked) = port.ask p key asked (reply_of id flags order)
 called port p order (Locate id key) = port.write p (locate_reply_of id order (port.here p key))
 called port p order Nothing = p
 

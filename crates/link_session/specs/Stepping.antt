@@ -8,7 +8,7 @@ use Rattle.host_server.specs.declared.answers.PortAnswer.{PortAnswer}
 use Rattle.link_session.specs.declared.calls.Calling.{Calling}
 use Rattle.link_session.specs.declared.calls.Calling.TheVariants.{Ask, Locate, Nothing}
 use Rattle.link_session.specs.Calls.{calling_of}
-use Rattle.link_session.specs.Ports.{Port, answered, called, locate_reply_of, reply_of, step, writes}
+use Rattle.link_session.specs.Ports.{Port, Replying, called, locate_reply_of, reply_of, step, writes}
 
 -- from one state to another a request with this object key is answered so
 abbrev pub Asking : Type 0 → Type 1
@@ -37,7 +37,7 @@ IsCalled asks finds order Nothing old new bytes = (new ≡ old) × (bytes ≡ No
 -- ---- where a port is a function
 
 abbrev pub asks_of : {P : Type 0} → Port P → Asking P
-asks_of {P} port old key asked new answer = ◌≡◌ {A = P × PortAnswer} (port.ask old key asked) (new, answer)
+asks_of {P} port old key asked new answer = (reply : Replying) → ◌≡◌ {A = P} (port.ask old key asked reply) (writes port new (reply answer))
 
 abbrev pub finds_of : {P : Type 0} → Port P → Finding P
 finds_of port old key new here = (new ≡ old) × (here ≡ port.here old key)
@@ -46,7 +46,7 @@ finds_of port old key new here = (new ≡ old) × (here ≡ port.here old key)
 called_so : {P : Type 0} (port : Port P) (order : Order) (c : Calling) (old new : P) (bytes : Option (List ℕ)) →
     IsCalled (asks_of port) (finds_of port) order c old new bytes → writes port new bytes ≡ called port old order c
 called_so port order (Ask id flags key asked) old new bytes a =
-    ap (λ (o : Option (List ℕ)). writes port new o) a.written ∙ sym (ap (answered port id flags order) a.so)
+    ap (λ (o : Option (List ℕ)). writes port new o) a.written ∙ sym (a.so (reply_of id flags order))
 called_so port order (Locate id key) old new bytes l =
     ap (λ (o : Option (List ℕ)). writes port new o) l.written
     ∙ ap (λ (b : Bool). port.write new (locate_reply_of id order b)) l.so.1

@@ -279,7 +279,39 @@ const RETRIES: [Row; 5] = [
 ];
 
 // Scripts, each with the line that is refused and why, or with no error text.
-const REFUSALS: [(&[u8], &[u8]); 29] = [
+// Scripts with checkpoints and updates, and with groups that are warm or active.
+const TRANSFERS: [Row; 4] = [
+    // The group's time, as its checkpoint has it, outlives the clocks of its hosts.
+    Row {
+        script: b"hosts 2\ngroup bank account cold 0 1\nclient ann\ncall ann bank deposit 5 exp=90\ndeliver 1\ntick 100\ncheckpoint bank\ncrash 0\ncrash 1\nrestart 0\ndeliver 1\n",
+        status: 0,
+        out: b"group bank 1\nview bank 1 members 0,1 primary 0\nmsg 1 client ann to host 0 request 1\nat 0 bank append 0\nmsg 2 host 0 to client ann reply 1 value 5\ncheckpoint bank host 0 position 1 time 100\ndown 0\ndown 1\nup 0\nat 0 bank expired 90 100\nmsg 3 host 0 to client ann reply 1 system BAD_CONTEXT 1 no\n",
+        err: b"",
+    },
+    // The next member goes on from the checkpoint: of three entries it runs two.
+    Row {
+        script: b"hosts 2\ngroup bank account cold 0 1\nclient ann\nclient bob\ncall ann bank deposit 5\ndeliver 1\ndeliver 2\ncheckpoint bank\ncall ann bank deposit 6\ndeliver 3\ndeliver 4\ncall ann bank deposit 7\ndeliver 5\ndeliver 6\ncrash 0\nreport bank 0\ncall bob bank balance\ndeliver 9\n",
+        status: 0,
+        out: b"group bank 1\nview bank 1 members 0,1 primary 0\nmsg 1 client ann to host 0 request 1\nat 0 bank append 0\nmsg 2 host 0 to client ann reply 1 value 5\ndone ann 1 value 5\ncheckpoint bank host 0 position 1 time 0\nmsg 3 client ann to host 0 request 2\nat 0 bank append 1\nmsg 4 host 0 to client ann reply 2 value 11\ndone ann 2 value 11\nmsg 5 client ann to host 0 request 3\nat 0 bank append 2\nmsg 6 host 0 to client ann reply 3 value 18\ndone ann 3 value 18\ndown 0\nview bank 2 members 1 primary 1\nmsg 7 manager to host 0 view bank 2\nmsg 8 manager to host 1 view bank 2\nmsg 9 client bob to host 1 request 1\nat 1 bank append 3\nmsg 10 host 1 to client bob reply 1 value 18\n",
+        err: b"",
+    },
+    // A backup gets updates and a state; an update that lies ahead of it is ignored.
+    Row {
+        script: b"hosts 2\ngroup bank account warm 0 1\nclient ann\ncall ann bank deposit 5\ndeliver 1\ndeliver 2\nupdate bank\ncall ann bank deposit 6\ndeliver 4\ndeliver 5\nupdate bank\ndeliver 6\ncheckpoint bank\nshow bank\ndeliver 7\n",
+        status: 0,
+        out: b"group bank 1\nview bank 1 members 0,1 primary 0\nmsg 1 client ann to host 0 request 1\nat 0 bank append 0\nmsg 2 host 0 to client ann reply 1 value 5\ndone ann 1 value 5\nupdate bank host 0 from 0 to 1\nmsg 3 host 0 to host 1 update bank 0 1\nmsg 4 client ann to host 0 request 2\nat 0 bank append 1\nmsg 5 host 0 to client ann reply 2 value 11\ndone ann 2 value 11\nupdate bank host 0 from 1 to 2\nmsg 6 host 0 to host 1 update bank 1 2\nignored 6 from 1 at 0\ncheckpoint bank host 0 position 2 time 0\nmsg 7 host 0 to host 1 state bank 2\nshow bank view 1 entries 2 mark 2 time 0\nmember 0 primary known 1 at 2 state 000000000000000b\nmember 1 backup known 1 at 0 state 0000000000000000\napplied 7 at 2\n",
+        err: b"",
+    },
+    // An order that comes before the one in front of it is held.
+    Row {
+        script: b"hosts 3\ngroup bank account active 0 1 2\nclient ann\nclient bob\ncall ann bank deposit 5\ncall bob bank deposit 6\ndeliver 1\ndeliver 2\ndeliver 7\ndeliver 7\ndeliver 4\ndeliver 4\nshow bank\n",
+        status: 0,
+        out: b"group bank 1\nview bank 1 members 0,1,2 primary -\nmsg 1 client ann to host 0 request 1\nmsg 2 client bob to host 0 request 1\nat 0 bank append 0\nmsg 3 host 0 to client ann reply 1 value 5\nmsg 4 host 0 to host 1 order bank 0\nmsg 5 host 0 to host 2 order bank 0\nat 0 bank append 1\nmsg 6 host 0 to client bob reply 1 value 11\nmsg 7 host 0 to host 1 order bank 1\nmsg 8 host 0 to host 2 order bank 1\nheld 7 order 1 at 0\nheld 7 order 1 at 0\napplied 4 at 2\nignored 4 order 0 at 2\nshow bank view 1 entries 2 mark 0 time 0\nmember 0 active known 1 at 2 state 000000000000000b\nmember 1 active known 1 at 2 state 000000000000000b\nmember 2 active known 1 at 0 state 0000000000000000\n",
+        err: b"",
+    },
+];
+
+const REFUSALS: [(&[u8], &[u8]); 28] = [
     (b"hosts 64\n", b""),
     (b"hosts 65\n", b"ftc: line 1: limit hosts\n"),
     (
@@ -297,7 +329,6 @@ const REFUSALS: [(&[u8], &[u8]); 29] = [
         b"hosts 1\ngroup g account cold 1\n",
         b"ftc: line 2: unknown\n",
     ),
-    (b"hosts 1\ngroup g store warm 0\n", b"ftc: line 2: later\n"),
     (
         b"hosts 1\ngroup g account cold 0 0\n",
         b"ftc: line 2: again\n",
@@ -315,11 +346,8 @@ const REFUSALS: [(&[u8], &[u8]); 29] = [
         b"hosts 1\ngroup g account cold 0\nmember g 10000000000000000000\n",
         b"ftc: line 3: unknown\n",
     ),
-    (b"checkpoint bank\n", b"ftc: line 1: later\n"),
-    (
-        b"set default org.omg.ft.ReplicationStyle ACTIVE\n",
-        b"ftc: line 1: later\n",
-    ),
+    (b"logfail bank\n", b"ftc: line 1: later\n"),
+    (b"checkpoint bank\n", b"ftc: line 1: unknown\n"),
     (
         b"create g account\ndelete g\ncreate g account\n",
         b"ftc: line 3: again\n",
@@ -451,6 +479,11 @@ fn scripts_write_their_output(rt: HostRuntime) -> Result<(), NoMemory> {
 #[test]
 fn members_take_over(rt: HostRuntime) -> Result<(), NoMemory> {
     each_row::<Brand>(&rt, rt.alloc(), &MEMBERS, Blank::new(1))
+}
+
+#[test]
+fn states_and_updates(rt: HostRuntime) -> Result<(), NoMemory> {
+    each_row::<Brand>(&rt, rt.alloc(), &TRANSFERS, Blank::new(1))
 }
 
 #[test]

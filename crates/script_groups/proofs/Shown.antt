@@ -14,7 +14,7 @@ use Rattle.script_groups.specs.Acting.{IsSoundGroup}
 use Rattle.script_groups.specs.Groups.{ScriptGroup, common_of}
 use Rattle.script_groups.proofs.Lists.{all_at}
 
-got : {A : Type 0} (xs : List A) (i : ℕ) (d : A) → i < length xs → slice_get xs i ≡ Some (slice_index_or xs i d)
+pub got : {A : Type 0} (xs : List A) (i : ℕ) (d : A) → i < length xs → slice_get xs i ≡ Some (slice_index_or xs i d)
 got [] i d h = absurd (omega arith)
 got (x ∷ xs) zero d h = refl
 got (x ∷ xs) (suc i) d h = got xs i d (omega arith)

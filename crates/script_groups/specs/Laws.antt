@@ -1,5 +1,5 @@
 -- What holds of a group of a script, and after more events.
-use Rattle.std.specs.Prelude.{◌≡◌, ℕ, ◌+◌, ◌<◌, ◌≤◌, false, List, length, Some}
+use Rattle.std.specs.Prelude.{◌≡◌, ℕ, ◌+◌, ◌<◌, ◌≤◌, false, List, length, Some, IfSome}
 use Rattle.std.specs.List.{AllByRecursion}
 use Rattle.ft_base.specs.Journal.{AtMostOnce}
 use Rattle.ft_base.specs.Members.{AreDifferent}
@@ -25,6 +25,7 @@ use Rattle.group_model.specs.Laws.{Grows, Lasts}
 use Rattle.group_model.specs.Sending.{brought, sent_by}
 use Rattle.script_groups.specs.Acting.{IsSoundGroup, MayCome}
 use Rattle.script_groups.specs.Groups.{ScriptGroup, acted, common_of, entries_caught_up, entries_run, group_of, machine_of, opened, orders_applied, reply_of, servant_calls, turn, with_more}
+use Rattle.script_groups.specs.Takers.{checkpoint_taker}
 use Rattle.shipped_servants.specs.declared.kinds.Kind.{Kind}
 
 -- its plain group is that after the event
@@ -83,3 +84,7 @@ pub record IsShownView (view : View) : Type 0 where
 
 abbrev pub ShownAreViews : Type 0
 ShownAreViews = (g : ScriptGroup) (version : ℕ) (view : View) → IsSoundGroup g → shown_view (common_of g) version ≡ Some view → IsShownView view
+
+-- the host that takes its checkpoints is one that there can be
+abbrev pub TakersAreInside : Type 0
+TakersAreInside = (g : ScriptGroup) → IsSoundGroup g → IfSome (checkpoint_taker g) (λ host. host.0 < HOST_LIMIT)

@@ -5,4 +5,5 @@ pub mod Acting
 pub mod Showing
 pub mod References
 pub mod Reading
+pub mod Takers
 pub mod Laws

@@ -158,7 +158,7 @@ impl ScriptGroup {
     }
 
     /// The greatest tick of an acceptance or a checkpoint.
-    pub(crate) fn time(&self) -> Tick
+    pub fn time(&self) -> Tick
         requires { IsKept self.now }
         ensures { result.0 ≡ (common_of self.now).time }
     {
@@ -167,7 +167,7 @@ impl ScriptGroup {
     }
 
     /// How its members share its work.
-    pub(crate) fn style(&self) -> Style
+    pub fn style(&self) -> Style
         requires { IsKept self.now }
         ensures { result ≡ (common_of self.now).style }
     {

@@ -1,5 +1,5 @@
 //! How a group of a script goes on. The functions do nothing: their contracts are facts.
-ghost use Rattle.script_groups.specs.Laws.{AnswersAreInForm, CallsAreCounted, CallsGoOn, EventsLast, GroupsGrow, GroupsStaySound, HistoriesGoOn, JournalsAcceptOnce, NoneCalledYet, RepliesStay, SentMayCome, ShownAreViews};
+ghost use Rattle.script_groups.specs.Laws.{AnswersAreInForm, CallsAreCounted, CallsGoOn, EventsLast, GroupsGrow, GroupsStaySound, HistoriesGoOn, JournalsAcceptOnce, NoneCalledYet, RepliesStay, SentMayCome, ShownAreViews, TakersAreInside};
 
 use group_model::{
     agreement_lasts, answers_are_given, groups_grow, groups_stay_sound, journals_stay,
@@ -51,4 +51,9 @@ pub fn answers_are_in_form()
 /// The members of each view of a group are different hosts that there can be, at most 16.
 pub fn shown_are_views()
     ensures { ShownAreViews }
+{}
+
+/// The host that takes a group's checkpoints is one that there can be.
+pub fn takers_are_inside()
+    ensures { TakersAreInside }
 {}

@@ -99,6 +99,8 @@ fn form(line: &Line) -> &'static [u8] {
         } => b"subscribe",
         Line::Unsubscribe(_) => b"unsubscribe",
         Line::Pull(_) => b"pull",
+        Line::Checkpoint(_) => b"checkpoint",
+        Line::Update(_) => b"update",
     }
 }
 
@@ -113,17 +115,17 @@ fn shown(alloc: Global, line: &[u8]) -> &'static [u8] {
 }
 
 // How lines read, with a bar between each two.
-const LINES: [(&str, &str); 43] = [
+const LINES: [(&str, &str); 45] = [
     ("nothing", "| \t\r|# frob|\r #frob"),
     ("hosts", "hosts 7|hosts\t0007\r|hosts 99999999999999999999"),
     (
         "account",
-        "group g1 account cold 0|group g account cold 99999999999999999999|group g account cold",
+        "group g1 account cold 0|group g account cold 99999999999999999999|group g account warm 0",
     ),
-    ("store", "group g store cold 0 00|group g store cold 2 1 0"),
+    ("store", "group g store cold 0 00|group g store warm"),
     (
         "queue",
-        "group g queue cold|group g queue cold 0 1 2 3 4 5 6 7 8 9 10 11 12 13 14 15 16",
+        "group g queue active 1 2 3|group g queue cold 0 1 2 3 4 5 6 7 8 9 10 11 12 13 14 15 16",
     ),
     ("client", "client c-6.x_Z|client c-8.x_Z \t "),
     (
@@ -159,12 +161,12 @@ const LINES: [(&str, &str); 43] = [
         concat!(
             "create g account|create g.x queue p=v q==w=|create g store p=",
             "|create g store org.omg.ft.ReplicationStyle=STATELESS org.omg.ft.ReplicationStyle=ACTIVE=",
-            "|create g store org.omg.ft.ReplicationStyl=ACTIVE",
+            "|create g store p=v org.omg.ft.ReplicationStyle=WARM_PASSIVE p=",
         ),
     ),
     (
         "set default",
-        "set default p v|set default default =|set default org.omg.ft.ReplicationStyle COLD_PASSIVE",
+        "set default p v|set default default =|set default org.omg.ft.ReplicationStyle ACTIVE",
     ),
     (
         "set type",
@@ -189,17 +191,9 @@ const LINES: [(&str, &str); 43] = [
     ),
     ("unsubscribe", "unsubscribe s"),
     ("pull", "pull  s.0 "),
-    (
-        "later",
-        concat!(
-            "group g account warm 0|group g store warm|group g queue active 1 2 3|checkpoint|update c1|logfail g|",
-            "set default org.omg.ft.ReplicationStyle ACTIVE|",
-            "set type queue org.omg.ft.ReplicationStyle WARM_PASSIVE|",
-            "set group g org.omg.ft.ReplicationStyle ACTIVE|",
-            "create g store org.omg.ft.ReplicationStyle=ACTIVE|",
-            "create g store p=v org.omg.ft.ReplicationStyle=WARM_PASSIVE p=",
-        ),
-    ),
+    ("checkpoint", "checkpoint g"),
+    ("update", "update g-2.x_Z"),
+    ("later", "logfail g|logfail"),
     (
         "syntax",
         concat!(
@@ -227,7 +221,7 @@ const LINES: [(&str, &str); 43] = [
             "get type store|get group g|get group 0 p|get group g p q|get frob p|grow|grow g|grow g x|",
             "grow 0 0|grow g 0 0|delete|delete 0|delete g g|poll|poll 0|poll g g|sweep|sweep 0|",
             "sweep g 0|subscribe|subscribe s|subscribe 0 -|subscribe s - -|Subscribe s -|unsubscribe|",
-            "unsubscribe 0|unsubscribe s -|pull|pull 0|pull s s",
+            "unsubscribe 0|unsubscribe s -|pull|pull 0|pull s s|checkpoint|update g g|update 0",
         ),
     ),
 ];
@@ -258,7 +252,7 @@ const LIMITS: [Limit; 25] = [
     ("#", "\r", 4095, "", "nothing", "limit line"),
     ("", " ", 4096, "", "nothing", "limit line"),
     ("", "frob ", 819, "", "syntax", "limit line"),
-    ("update", " x", 2045, "", "later", "limit line"),
+    ("logfail", " x", 2044, "", "later", "limit line"),
     ("subscribe s ", "-", 4084, "", "subscribe", "limit line"),
     ("bind ", "c", 64, " g", "bind", "syntax"),
     ("bind c ", "g", 64, "", "bind", "syntax"),
@@ -271,7 +265,7 @@ const LIMITS: [Limit; 25] = [
     ("show ", "g", 64, "", "show", "syntax"),
     ("client ", "c", 64, "", "client", "syntax"),
     ("group ", "g", 64, " account cold 0", "account", "syntax"),
-    ("group ", "g", 64, " store warm 0", "later", "syntax"),
+    ("group ", "g", 64, " store warm 0", "store", "syntax"),
     ("report ", "g", 64, " 0", "report", "syntax"),
     ("call ", "c", 64, " g op", "call", "syntax"),
     ("call c ", "g", 64, " op", "call", "syntax"),

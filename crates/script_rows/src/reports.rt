@@ -283,6 +283,37 @@ fn asked(alloc: Global, rows: &mut Vec<Row>) -> Result<(), NoMemory> {
     Ok(())
 }
 
+// A state or an update is taken of a group, or none is.
+fn taken(alloc: Global, rows: &mut Vec<Row>) -> Result<(), NoMemory> {
+    let checkpoint = ReportLine::Checkpoint {
+        group: name(alloc, b"bank")?,
+        host: HOST,
+        position: 2,
+        time: Tick(100),
+    };
+    rows.push((checkpoint, "checkpoint bank host 0 position 2 time 100\n"))?;
+    let none = ReportLine::CheckpointNone {
+        group: name(alloc, b"bank")?,
+    };
+    rows.push((none, "checkpoint bank none\n"))?;
+    let failed = ReportLine::CheckpointFailed {
+        group: name(alloc, b"bank")?,
+    };
+    rows.push((failed, "checkpoint bank logfault\n"))?;
+    let update = ReportLine::Updated {
+        group: name(alloc, b"bank")?,
+        host: HostNo(1),
+        base: 1,
+        position: 2,
+    };
+    rows.push((update, "update bank host 1 from 1 to 2\n"))?;
+    let none = ReportLine::UpdateNone {
+        group: name(alloc, b"bank")?,
+    };
+    rows.push((none, "update bank none\n"))?;
+    Ok(())
+}
+
 fn values(alloc: Global, rows: &mut Vec<Row>) -> Result<(), NoMemory> {
     rows.push((valued(alloc, 4, Worth::Void)?, "done ann 4 value void\n"))?;
     rows.push((
@@ -376,6 +407,7 @@ fn lines_with_texts(rt: HostRuntime) -> Result<(), NoMemory> {
     one_call(alloc, &mut rows)?;
     told(alloc, &mut rows)?;
     asked(alloc, &mut rows)?;
+    taken(alloc, &mut rows)?;
     values(alloc, &mut rows)?;
     outcomes(alloc, &mut rows)?;
     own_ends(alloc, &mut rows)?;

@@ -17,10 +17,10 @@ use Rattle.iogr_reference.specs.declared.choices.TheConstants.{DOMAIN}
 use Rattle.script_groups.specs.Groups.{ScriptGroup, Placed, turn}
 use Rattle.script_groups.specs.Showing.{shown}
 use Rattle.script_world.specs.declared.hosts.HostState.{HostState}
-use Rattle.script_world.specs.World.{World, fresh_host, is_there, is_up, with_event, with_fault, with_host, with_messages}
+use Rattle.script_world.specs.World.{World, fresh_host, is_there, is_up, with_event, with_fault, with_host}
 use Rattle.shipped_servants.specs.declared.kinds.Kind.{Kind}
 use Rattle.shipped_servants.specs.Kinds.{type_id}
-use Rattle.world_turns.specs.Sending.{all_carried, sent_lines, view_line}
+use Rattle.world_turns.specs.Sending.{all_sent, sent_lines, view_line}
 use Rattle.world_turns.specs.Naming.{Naming, NeverMade, Deleted, There, gone, group_called}
 use Rattle.world_turns.specs.Turns.{Cause, Effect, Turn, Refused, cause, costing, first_cause, goes, says, unless}
 
@@ -74,7 +74,7 @@ with_reported w kind group other = w
 -- the new view is sent, or the change was refused
 abbrev pub changed : World → HostNo → ScriptGroup → Change → GroupAnswer → Effect
 changed w host g change (group_answers.Changed view out) =
-    says (with_reported (with_messages w (all_carried g.id out)) g.kind g.id change)
+    says (with_reported (all_sent w g.id out) g.kind g.id change)
     (view_line g.name view ∷ sent_lines (length w.messages + 1) g.name host out)
 changed w host g change (group_answers.Refused why) = says w (reports.Refused why ∷ [])
 changed w host g change other = says w []

@@ -10,10 +10,10 @@ use Rattle.group_model.specs.declared.events.GroupAnswer.{GroupAnswer}
 use Rattle.group_model.specs.declared.events.GroupAnswer.TheVariants as answers
 use Rattle.group_model.specs.Views.{host_no}
 use Rattle.script_groups.specs.Groups.{ScriptGroup, Placed, acted, turn}
-use Rattle.script_world.specs.World.{World, with_event, with_messages}
+use Rattle.script_world.specs.World.{World, with_event}
 use Rattle.shipped_servants.specs.declared.kinds.Kind.{Kind}
 use Rattle.world_management.specs.Hosts.{changed, with_reported}
-use Rattle.world_turns.specs.Sending.{all_carried}
+use Rattle.world_turns.specs.Sending.{all_sent}
 use Rattle.world_monitors.specs.Sweeping.{reported, reports_one}
 
 get_set : {A : Type 0} (xs : List A) (i : ℕ) (x y : A) → slice_get xs i ≡ Some y → slice_get (slice_set xs i x) i ≡ Some x
@@ -30,7 +30,7 @@ reported_groups w kind group (changes.Create host listed made) = refl
 reported_groups w kind group (changes.Primary host) = refl
 
 changed_groups : (w : World) (host : HostNo) (g : ScriptGroup) (change : Change) (answer : GroupAnswer) → (changed w host g change answer).world.groups ≡ w.groups
-changed_groups w host g change (answers.Changed view out) = reported_groups (with_messages w (all_carried g.id out)) g.kind g.id change
+changed_groups w host g change (answers.Changed view out) = reported_groups (all_sent w g.id out) g.kind g.id change
 changed_groups w host g change (answers.Refused why) = refl
 changed_groups w host g change (answers.Reply decision answer out) = refl
 changed_groups w host g change (answers.Known version) = refl

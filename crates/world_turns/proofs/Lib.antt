@@ -1,2 +1,3 @@
 pub mod SendingLemmas
 pub mod NamingLemmas
+pub mod PayloadLemmas

@@ -1,14 +1,14 @@
-//! What a group sends becomes messages.
-ghost use Rattle.std.specs.Prelude.{◌≡◌, ◌+◌, ◌++◌, [], ◌∷◌, IfOk, OnOk, length};
+//! What a group sends becomes messages, whose bytes are counted.
+ghost use Rattle.std.specs.Prelude.{◌≡◌, ◌+◌, ◌++◌, ◌<◌, ◌^◌, [], ◌∷◌, IfOk, OnOk, length};
 ghost use Rattle.std.specs.List.{AllByRecursion};
-ghost use Rattle.world_turns.specs.Sending.{all_carried, carried, sent_line, sent_lines, view_line};
+ghost use Rattle.world_turns.specs.Sending.{all_carried, all_sent, carried, payload, payloads, request_payload, sent_line, sent_lines, view_line};
 ghost use Rattle.script_world.specs.Sound.{IsOnItsWay};
-ghost use Rattle.script_world.specs.World.{with_messages};
+ghost use Rattle.script_world.specs.World.{at_most_one_past, with_messages};
 
-use ft_base::{GroupId, HostNo, Name, NoMemory, View};
+use ft_base::{GroupId, HostNo, Name, NoMemory, Request, View};
 use ft_report::{ReportLine, ReportLines};
 use group_model::{Inner, Out, OutList};
-use script_world::{Message, World};
+use script_world::{BYTE_LIMIT, Message, World};
 use std::alloc::Global;
 
 /// Prints a view.
@@ -27,6 +27,51 @@ pub fn push_view(
         members: view.members,
         primary: view.primary,
     })
+}
+
+fn request_payload(request: &Request) -> u128
+    ensures is { result ≡ request_payload request.now }
+    ensures small { result < 2 ^ 66 }
+{
+    let client = match &request.key {
+        None => 0,
+        Some(key) => key.client.bytes().len(),
+    };
+    client as u128 + request.op.bytes().len() as u128 + request.args.bytes().len() as u128
+}
+
+// The bytes that count of a message between members.
+fn payload(carried: &Inner) -> u128
+    ensures is { result ≡ payload carried.now }
+    ensures small { result < 2 ^ 66 }
+{
+    match carried {
+        Inner::View { .. } => 0,
+        Inner::State { state, .. } => state.bytes().len() as u128,
+        Inner::Update { update, .. } => update.bytes().len() as u128,
+        Inner::Order { request, .. } => request_payload(request),
+    }
+}
+
+fn at_most_one_past(bytes: u128) -> u128
+    ensures { result ≡ at_most_one_past bytes }
+{
+    if bytes <= BYTE_LIMIT as u128 {
+        bytes
+    } else {
+        BYTE_LIMIT as u128 + 1
+    }
+}
+
+// The bytes that count of all of them, up to one more than there can be.
+fn payloads(outs: &[Out]) -> u128
+    ensures { result ≡ at_most_one_past (payloads outs.now) }
+{
+    let mut bytes = 0;
+    for out in outs {
+        bytes = at_most_one_past(bytes + payload(&out.carried));
+    }
+    bytes
 }
 
 // The line of a message to a host of a group.
@@ -96,8 +141,8 @@ fn send_out(
     world.send(Message::Carried { group, out })
 }
 
-/// Sends all of them in order, and prints each.
-pub fn send_all(
+// Sends all of them in order, and prints each.
+fn send_each(
     world: &mut World,
     report: &mut ReportLines,
     group: GroupId,
@@ -112,5 +157,24 @@ pub fn send_all(
     for out in outs.into_vec() {
         send_out(world, report, group, name, from, out)?;
     }
+    Ok(())
+}
+
+/// Sends all of them in order, prints each, and counts their bytes.
+pub fn send_all(
+    world: &mut World,
+    report: &mut ReportLines,
+    group: GroupId,
+    name: &Name,
+    from: HostNo,
+    outs: OutList,
+) -> Result<(), NoMemory>
+    requires { AllByRecursion (λ out. IsOnItsWay world.old.groups (carried group out)) outs }
+    ensures world { OnOk result (world.new ≡ all_sent world.old group outs) }
+    ensures report { OnOk result (report.new ≡ report.old ++ sent_lines (length world.old.messages + 1) name.now from outs) }
+{
+    let bytes = payloads(outs.as_slice());
+    send_each(world, report, group, name, from, outs)?;
+    world.count_bytes(bytes);
     Ok(())
 }

@@ -11,4 +11,5 @@ returns-in-Some-clause-asks g c =
 
 pub returns-in_ok-push-in-None-clause-asks : goal.returns-in_ok-push-in-None-clause-asks
 returns-in_ok-push-in-None-clause-asks g c =
-    none_asked c.args.world.now c.args.host.0 c.args.key.now c.args.asked c.args.report.now c.push.new.self c.args.steps.now c.in-None.ensures c.in_ok-push-in-None.ensures
+    none_asked c.args.world.now c.args.host.0 c.args.key.now c.args.asked c.no_object.result c.args.report.now c.push.new.self c.args.steps.now c.in-None.ensures
+    c.no_object.ensures.answer c.no_object.ensures.orders c.in_ok-push-in-None.ensures

@@ -11,10 +11,10 @@ returns-in-Err-clause-did g c =
 pub returns-in-Ok-reply-clause-did : goal.returns-in-Ok-reply-clause-did
 returns-in-Ok-reply-clause-did g c =
     ask_pushed c.args.world.now c.args.host.0 c.args.order c.args.report.now c.args.steps.now c.args.id c.args.flags c.args.key.now c.args.asked
-    c.in-Ok.answer c.ask.new.world c.ask.new.report c.push_bytes.new.report c.ask.new.steps c.in-Ok-reply.bytes c.push_bytes.result
-    c.in-Ok.ensures.asks c.in-Ok-reply.ensures c.push_bytes.ensures
+    c.in-Ok.said c.ask.new.world c.ask.new.report c.push_answer.new.report c.ask.new.steps c.in-Ok-reply.bytes c.push_answer.result
+    c.in-Ok.ensures.asks c.in-Ok-reply.ensures c.push_answer.ensures
 
 pub returns-clause-did : goal.returns-clause-did
 returns-clause-did g c =
     ask_stopped c.args.world.now c.args.host.0 c.args.order c.args.report.now c.args.steps.now c.args.id c.args.flags c.args.key.now c.args.asked
-    c.in-Ok.answer c.ask.new.world c.ask.new.report c.ask.new.steps c.in-Ok.ensures.asks
+    c.in-Ok.said c.ask.new.world c.ask.new.report c.ask.new.steps c.in-Ok.ensures.asks

@@ -4,7 +4,7 @@ use Rattle.group_model.specs.declared.events.Out.{Out}
 use Rattle.script_world.specs.Sound.{IsOnItsWay}
 use Rattle.world_turns.specs.Sending.{carried}
 use Rattle.world_turns.proofs.SendingLemmas.{join, lines_more, no_lines, none_sent, world_more}
-use Rattle.world_turns.proofs.sending.send_all.Goals as goal
+use Rattle.world_turns.proofs.sending.send_each.Goals as goal
 
 pub loop-out-init : goal.loop-out-init
 loop-out-init c =

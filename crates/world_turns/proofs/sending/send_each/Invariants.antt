@@ -3,7 +3,7 @@ use Rattle.std.specs.List.{AllByRecursion}
 use Rattle.script_world.specs.Sound.{IsOnItsWay}
 use Rattle.script_world.specs.World.{with_messages}
 use Rattle.world_turns.specs.Sending.{all_carried, carried, sent_lines}
-use Rattle.world_turns.proofs.sending.send_all.Given as goal
+use Rattle.world_turns.proofs.sending.send_each.Given as goal
 
 -- what was sent so far, and what is left
 abbrev pub invariant-loop-out : goal.invariant-loop-out

@@ -1,0 +1,40 @@
+use Rattle.std.proofs.Common.{ℕ, ap, refl, sym, subst, ◌∙◌}
+use Rattle.std.specs.List.{AllByRecursion}
+use Rattle.ft_base.specs.declared.numbers.Tick.{Tick}
+use Rattle.group_model.specs.Sending.{sent_by}
+use Rattle.group_model.specs.declared.events.Event.TheVariants as events
+use Rattle.script_groups.specs.Groups.{ScriptGroup, acted}
+use Rattle.script_world.specs.Sound.{IsOnItsWay}
+use Rattle.script_world.specs.World.{carried}
+use Rattle.world_transfers.specs.Transfers.{updated}
+use Rattle.world_transfers.proofs.TransferLemmas.{done_behind, get_inside, has_turn, is_made, same_group, short_behind, some_at, stands}
+use Rattle.world_transfers.proofs.updates.update_at.Goals as goal
+
+pub updated-requires : goal.updated-requires
+updated-requires l c =
+    let w = c.args.world.now in
+    let at = some_at w.groups c.args.place c.requires.within in
+    let event = events.SendUpdate c.args.host in
+    let it = has_turn w c.args.place event c.event_at.result c.event_at.new.self c.args.steps.now c.event_at.new.steps c.in_default.not-NoMemory c.event_at.ensures.turn in
+    let later = stands w c.args.place at.0 at.1 event (events.SendUpdate c.args.host) refl c.event_at.result c.event_at.new.self c.args.steps.now c.event_at.new.steps it in
+    record {
+      within = get_inside c.event_at.new.self.groups c.args.place (acted at.0 (events.SendUpdate c.args.host)) later;
+      kept = is_made c.event_at.result c.in_default.not-NoMemory c.event_at.ensures.kept;
+      sent = λ g there.
+          subst (λ (x : ScriptGroup). AllByRecursion (λ o. IsOnItsWay c.event_at.new.self.groups (carried x.id o)) (sent_by c.event_at.result)) (same_group (acted at.0 (events.SendUpdate c.args.host)) g (sym later ∙ there))
+          (c.event_at.ensures.sent at.0 at.1);
+    }
+
+pub returns-in-NoMemory : goal.returns-in-NoMemory
+returns-in-NoMemory l c = λ g there.
+    short_behind c.args.world.now c.args.place g there (events.SendUpdate c.args.host) (events.SendUpdate c.args.host) refl updated c.args.host c.args.steps.now c.event_at.new.steps c.in-NoMemory.ensures.turn
+
+pub returns-in_default : goal.returns-in_default
+returns-in_default l c = λ g there.
+    let w = c.args.world.now in
+    let event = events.SendUpdate c.args.host in
+    let it = has_turn w c.args.place event c.event_at.result c.event_at.new.self c.args.steps.now c.event_at.new.steps c.in_default.not-NoMemory c.event_at.ensures.turn in
+    let later = stands w c.args.place g there event (events.SendUpdate c.args.host) refl c.event_at.result c.event_at.new.self c.args.steps.now c.event_at.new.steps it in
+    done_behind w c.args.place g there event (events.SendUpdate c.args.host) refl c.event_at.result c.event_at.new.self c.args.steps.now c.event_at.new.steps it
+    updated c.args.host c.updated.result c.updated.new.world c.event_at.new.steps
+    (c.updated.ensures (acted g (events.SendUpdate c.args.host)) c.event_at.new.steps later)
