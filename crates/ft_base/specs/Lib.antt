@@ -1,4 +1,5 @@
 pub mod Text
+pub mod Counting
 pub mod Members
 pub mod Views
 pub mod Canonical

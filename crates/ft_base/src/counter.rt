@@ -1,14 +1,16 @@
-ghost use Rattle.std.specs.Prelude.{◌≡◌, ℕ, ◌+◌, ◌<◌};
+ghost use Rattle.std.specs.Prelude.{◌≡◌, ℕ, ◌+◌, ◌-◌, ◌^◌, ◌<◌, min};
+ghost use Rattle.ft_base.specs.Counting.{IsCounted};
 
 use std::marker::Model;
 use std::sync::ledger::{Blank, Book, Ledger, Share};
 
-/// The number of servant calls so far. It takes no bytes and counts in proofs alone, so that a
-/// contract can say how often a servant was called.
+/// The number of servant calls so far. Contracts see it whole, so that they can say how often a
+/// servant was called; what a program can print of it ends at the last number of a `u64`.
 #[derive(Drop)]
 pub struct Steps<L: Ledger> {
     book: Book<L>,
     share: Share<L>,
+    told: u64,
 }
 
 impl<L: Ledger> Model for Steps<L> {
@@ -16,7 +18,7 @@ impl<L: Ledger> Model for Steps<L> {
 
     ghost view = { λ s. s.book.total };
 
-    ghost invariant = { λ s. 0 < s.share.parts };
+    ghost invariant = { λ s. IsCounted s.share.parts s.book.total s.told };
 }
 
 impl<L: Ledger> Steps<L> {
@@ -28,7 +30,11 @@ impl<L: Ledger> Steps<L> {
         ensures { result ≡ 0 }
     {
         let (book, share) = blank.open::<L>();
-        Steps { book, share }
+        Steps {
+            book,
+            share,
+            told: 0,
+        }
     }
 
     /// Counts one servant call.
@@ -36,5 +42,13 @@ impl<L: Ledger> Steps<L> {
         ensures { self.new ≡ self.old + 1 }
     {
         self.book.add(&mut self.share, 1);
+        self.told = self.told.saturating_add(1);
+    }
+
+    /// The number itself, or the greatest one that is told.
+    pub fn count(&self) -> u64
+        ensures { result ≡ min self.now (2 ^ 64 - 1) }
+    {
+        self.told
     }
 }
