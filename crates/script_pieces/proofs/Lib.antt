@@ -5,3 +5,4 @@ pub mod Feedings
 pub mod Wholes
 pub mod Endings
 pub mod Handing
+pub mod Texts

@@ -9,7 +9,7 @@ mod running;
 
 pub use actors::{Actor, LineResult};
 pub use feeding::{FeedResult, Pieces};
-pub use running::{RunEnd, run_script};
+pub use running::{RunEnd, run_script, run_text};
 
 #[cfg(test)]
 mod tests;

@@ -1,5 +1,5 @@
 ghost use Rattle.std.specs.Prelude.{◌≤◌, [], IfSome};
-ghost use Rattle.script_pieces.specs.Runs.{script_limit};
+ghost use Rattle.script_pieces.specs.Runs.{run, script_limit};
 ghost use Rattle.script_pieces.specs.Feeds.{IsFed, IsDone, IsHandedOn, IfOn, trace, point, resume};
 ghost use Rattle.script_pieces.specs.Scripts.{IsEnded, IsOver, bytes_read, outside};
 
@@ -44,6 +44,31 @@ pub fn run_script<A: Actor, S: Source, B: Sink, L: Ledger>(
         (outside (S.left input.new) (S.count input.new) (trace (B.holds out.new) (B.count out.new) steps.new)) result) }
 {
     run_pieces(alloc, acts, input, out, steps)
+}
+
+/// Runs a script that is there whole. Its output is out at the end of the run; where a write failed or
+/// memory was wanted, nothing more is flushed.
+pub fn run_text<A: Actor, B: Sink, L: Ledger>(
+    alloc: Global,
+    acts: &mut A,
+    text: &[u8],
+    out: &mut B,
+    steps: &mut Steps<L>,
+) -> FeedResult<A::Fault>
+    requires { A.may_act acts.old 1 }
+    ensures { IsDone (run A.rules acts.old text.now) (trace (B.holds out.old) (B.count out.old) steps.old)
+        (trace (B.holds out.new) (B.count out.new) steps.new) result }
+{
+    let mut pieces = match Pieces::new(alloc) {
+        Ok(pieces) => pieces,
+        Err(_) => return FeedResult::NoMemory,
+    };
+    match feed_out(alloc, &mut pieces, acts, text, out, steps) {
+        FeedResult::On => finish_out(alloc, &mut pieces, acts, out, steps),
+        FeedResult::Refused(number, why) => FeedResult::Refused(number, why),
+        FeedResult::WriteFailed => FeedResult::WriteFailed,
+        FeedResult::NoMemory => FeedResult::NoMemory,
+    }
 }
 
 fn run_pieces<A: Actor, S: Source, B: Sink, L: Ledger>(
