@@ -505,14 +505,11 @@ fn each_end<L: Ledger>(rt: &impl Abort, alloc: Global, blank: Blank) -> Result<(
     );
     assert_eq!(rt; err.bytes(), b"ftc: write fault\n".as_slice());
     assert_eq!(rt; status, 5);
-    let (status, out, _) = run(alloc, &[], ROWS[1].script, &[], &mut steps)?;
-    assert_eq!(rt; out.bytes(), b"".as_slice());
-    assert_eq!(rt; status, 2);
     Ok(())
 }
 
 #[test]
-fn faults_and_words_have_their_status(rt: HostRuntime) -> Result<(), NoMemory> {
+fn a_fault_has_its_status(rt: HostRuntime) -> Result<(), NoMemory> {
     each_end::<Brand>(&rt, rt.alloc(), Blank::new(1))
 }
 
@@ -556,4 +553,49 @@ fn each_fault<L: Ledger>(rt: &impl Abort, alloc: Global, blank: Blank) -> Result
 #[test]
 fn faults_leave_a_front_of_the_output(rt: HostRuntime) -> Result<(), NoMemory> {
     each_fault::<Brand>(&rt, rt.alloc(), Blank::new(1))
+}
+
+// What one round writes: the counts, and the group behind a takeover.
+const ONE_ROUND: &[u8] =
+    b"made 1 lines 19 messages 8 entries 2 calls 3\nshow bank view 2 entries 2 mark 0 time 0\nmember 1 primary known 2 at 2 state 000000000000024e\nmember 2 backup known 2 at 0 state 0000000000000000\n";
+
+// Words of the command line, their status, and what they write.
+const FORMS: [(&[&str], u8, &[u8]); 9] = [
+    (&[], 2, b""),
+    (&["run"], 0, b""),
+    (&["run", "--make", "1"], 0, ONE_ROUND),
+    (&["run", "--make", "0001"], 0, ONE_ROUND),
+    (&["run", "--make", "0"], 2, b""),
+    (&["run", "--make", "50001"], 2, b""),
+    (&["run", "--make", "x"], 2, b""),
+    (&["run", "--make"], 2, b""),
+    (&["live", "--make", "1"], 2, b""),
+];
+
+fn words_of(alloc: Global, texts: &[&str]) -> Result<Vec<String>, NoMemory> {
+    let mut words = Vec::new(alloc);
+    for text in texts {
+        words.push(String::from_str(alloc, text)?)?;
+    }
+    Ok(words)
+}
+
+fn each_form<L: Ledger>(rt: &impl Abort, alloc: Global, blank: Blank) -> Result<(), NoMemory>
+    requires name { blank.name ≡ L.name }
+    requires parts { blank.parts ≡ L.parts }
+    requires some { 0 < blank.parts }
+{
+    let mut steps = Steps::<L>::new(blank);
+    for (texts, wanted, written) in &FORMS {
+        let words = words_of(alloc, texts)?;
+        let (status, out, _) = run(alloc, words.as_slice(), b"", &[], &mut steps)?;
+        assert_eq!(rt; out.bytes(), *written);
+        assert_eq!(rt; status, *wanted);
+    }
+    Ok(())
+}
+
+#[test]
+fn words_have_their_status(rt: HostRuntime) -> Result<(), NoMemory> {
+    each_form::<Brand>(&rt, rt.alloc(), Blank::new(1))
 }

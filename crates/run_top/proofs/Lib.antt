@@ -1,2 +1,3 @@
 pub mod PlayingLemmas
 pub mod WordLemmas
+pub mod MadeLemmas

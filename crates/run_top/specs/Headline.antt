@@ -1,14 +1,14 @@
 -- The whole run of a script: its output, status, error text and servant calls.
-use Rattle.std.specs.Prelude.{◌≡◌, ℕ, ◌<◌, ◌⊎◌, ◌++◌, List, [], ◌∷◌, length, map, take, codes, decimal, string_bytes, Option, Some, None, IfSome, option_map}
-use Rattle.std.specs.declared.string.String.{String}
-use Rattle.std.specs.declared.alloc.Global.{Global}
+use Rattle.std.specs.Prelude.{◌≡◌, ℕ, ◌<◌, ◌⊎◌, ◌++◌, List, [], ◌∷◌, length, take, codes, decimal, Option, Some, None, IfSome, option_map}
 use Rattle.ft_outside.specs.Outside.{next_count}
 use Rattle.fault_script.specs.Faults.{fault_text}
 use Rattle.fault_script.specs.declared.lines.LineFault.{LineFault}
+use Rattle.made_scripts.specs.Scripts.{script_text}
 use Rattle.script_world.specs.World.{empty}
 use Rattle.script_pieces.specs.Feeds.{IsGain}
 use Rattle.script_pieces.specs.Runs.{RunEffect, run, whole_run}
 use Rattle.script_pieces.specs.Scripts.{IsAtEnd}
+use Rattle.run_top.specs.Making as making
 use Rattle.run_top.specs.Playing.{rules}
 
 -- the run of the program: its output, its status, its text of errors, and its servant calls
@@ -45,21 +45,25 @@ run_of effect = record {
 abbrev pub script_run : List ℕ → Run
 script_run bytes = run_of (run rules empty bytes)
 
+-- the run of a script that is made, of so many rounds: of its output, what its `show` prints, behind a line of counts
+abbrev pub made_run : ℕ → Run
+made_run rounds = run_of (run making.rules (making.fresh rounds) (script_text rounds))
+
 -- a text was written whole, or one write of it failed and the sink holds a front of the text
 abbrev pub IsTold : Option (List ℕ) → Option (List ℕ) → ℕ → ℕ → List ℕ → Type 0
 IsTold before holds faults count text =
     ((holds ≡ option_map (λ held. held ++ text) before) × (count ≡ faults))
     ⊎ ((n : ℕ) × (n < length text) × (holds ≡ option_map (λ held. held ++ take n text) before) × (count ≡ next_count faults))
 
--- the words after the program's name are the one word `run`
-abbrev pub IsRun : List (String Global) → Type 0
-IsRun words = map string_bytes words ≡ codes "run" ∷ []
-
 -- what is told of words of no form
 abbrev pub usage_text : List ℕ
 usage_text = codes "ftc: usage: ftc run [--make N] | live --hosts H --clients C --calls K --style S [--kill X] [--after N]\n"
 
--- what holds at status 0 or 3, where the source tells what it has left
+-- what holds at status 0 or 3
+abbrev pub IfEnded : ℕ → Type 0 → Type 0
+IfEnded status P = (status ≡ 0) ⊎ (status ≡ 3) → P
+
+-- the same, where the source tells what it has left
 abbrev pub IfRan : ℕ → Option (List ℕ) → Type 0 → Type 0
 IfRan status told P = (status ≡ 0) ⊎ (status ≡ 3) → IfSome told (λ _. P)
 
@@ -94,6 +98,10 @@ IsFrontGain before holds out = (front : List ℕ) × (tail : List ℕ) × (out �
 abbrev pub IfUnread : ℕ → Option (List ℕ) → Type 0 → Type 0
 IfUnread status told P = status ≡ 4 → IfSome told (λ _. P)
 
--- what holds where the run stopped for a write or for memory, of a source that tells what it has left
+-- what holds where the run stopped for a write or for memory
+abbrev pub IfBroken : ℕ → Type 0 → Type 0
+IfBroken status P = (status ≡ 5) ⊎ (status ≡ 6) → P
+
+-- the same, of a source that tells what it has left
 abbrev pub IfStopped : ℕ → Option (List ℕ) → Type 0 → Type 0
 IfStopped status told P = (status ≡ 5) ⊎ (status ≡ 6) → IfSome told (λ _. P)

@@ -1,3 +1,7 @@
+pub mod Words
 pub mod Playing
+pub mod Making
 pub mod Headline
 pub mod PlayingLaws
+pub mod MakingLaws
+pub mod Laws

@@ -10,7 +10,7 @@ use Rattle.fault_script.specs.declared.lines.LineFault.TheVariants.{Limit}
 use Rattle.script_world.specs.World.{World}
 use Rattle.run_top.specs.Playing.{effect_of, rules}
 
-long : (text : List ℕ) → 4096 < length text → parse text ≡ Err (Limit limits.Line)
+pub long : (text : List ℕ) → 4096 < length text → parse text ≡ Err (Limit limits.Line)
 long text h = cond-true (nat_lt 4096 (length text)) (Err (Limit limits.Line)) (parse_words (words text)) (lt-ltb 4096 (length text) h)
 
 pub alike : (w : World) (text : List ℕ) → rules.effect w text ≡ rules.effect w (take 4097 text)

@@ -1,9 +1,14 @@
-//! The run of `ftc`: the words of the command line, the world that the lines of a script act on, and
-//! the status with its text. What the whole run is, specs/Headline.antt says.
+//! The run of `ftc`: the words of the command line, the world that the lines of a script act on, the
+//! counts of a script that is made, and the status with its text. What the whole run is,
+//! specs/Headline.antt says.
 #![tactic(auto)]
 
+mod laws;
+mod making;
 mod playing;
 mod runs;
+mod words;
 
+pub use laws::made_runs_are_runs;
 pub use playing::Script;
 pub use runs::ftc_run;

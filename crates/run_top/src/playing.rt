@@ -54,6 +54,13 @@ impl Script {
         Ok(Script { world })
     }
 
+    /// The world that the lines made so far.
+    pub(crate) fn world(&self) -> &World
+        ensures { result.now ≡ self.now }
+    {
+        &self.world
+    }
+
     // Acts a line that was read.
     fn play<L: Ledger>(&mut self, line: Line, steps: &mut Steps<L>) -> LineResult<LineFault>
         requires { (number : ℕ) × (number ≤ script_limit + 1) × MayAct self.old number }

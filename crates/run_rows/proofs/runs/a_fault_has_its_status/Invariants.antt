@@ -1,4 +1,4 @@
-use Rattle.run_rows.proofs.runs.faults_and_words_have_their_status.Given as goal
+use Rattle.run_rows.proofs.runs.a_fault_has_its_status.Given as goal
 
 -- the ledger that the blank counter begins
 abbrev pub ghosts-each_end : goal.ghosts-each_end

@@ -2,9 +2,9 @@ use Rattle.std.proofs.Common.{◌∙◌, List, ap, subst, sym, IsTrue, codes, �
 use Rattle.std.specs.Str.{bytes_eq}
 use Rattle.std.specs.Prelude.{String, string_bytes}
 use Rattle.std.specs.declared.alloc.Global.{Global}
-use Rattle.run_top.specs.Headline.{IsRun}
+use Rattle.run_top.specs.Words.{IsRun}
 use Rattle.run_top.proofs.WordLemmas.{one_word, same_text}
-use Rattle.run_top.proofs.runs.is_run.Goals as goal
+use Rattle.run_top.proofs.words.is_run.Goals as goal
 
 pub returns-in-len1 : goal.returns-in-len1
 returns-in-len1 c =
