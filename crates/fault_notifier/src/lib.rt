@@ -3,6 +3,24 @@
 //! A notifier keeps all fault events in order, and for each subscriber the place from which its
 //! events are still to be read: it is told of those that were pushed since its connection and that
 //! its filter lets through.
+//!
+//! A subscriber connects with a filter, which [`Notifier::create_filter`] reads from a text, and pulls what was pushed
+//! since:
+//!
+//! ```
+//! let filter = filter(notifier, text)?;
+//! match notifier.connect(filter) {
+//!     Ok(sub) => Ok(sub),
+//!     Err(_) => Err(NoMemory),
+//! }
+//! ```
+//!
+//! ```
+//! match notifier.pull(sub) {
+//!     Ok(Some(event)) if event.host.0 == *host => {}
+//!     _ => return false,
+//! }
+//! ```
 #![tactic(auto)]
 
 mod events;

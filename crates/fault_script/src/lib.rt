@@ -1,4 +1,14 @@
 //! The lines of a script: their grammar, and its reader.
+//!
+//! A line's text is nothing, a line, or why it is refused:
+//!
+//! ```
+//! match read_line(alloc, line) {
+//!     Ok(None) => b"nothing",
+//!     Ok(Some(line)) => form(&line),
+//!     Err(fault) => fault.text(),
+//! }
+//! ```
 #![tactic(auto)]
 
 mod arguments;

@@ -1,6 +1,25 @@
 //! The words that every crate of `ftc` speaks in: names, requests and outcomes, views, and what a
 //! servant is. Its `specs/` have the definitions of a servant's function, of the journal and of at
 //! most once, which the contracts above cite.
+//!
+//! Any servant is asked like this:
+//!
+//! ```
+//! let request = request_of(alloc, servant, op.as_bytes(), body)?;
+//! servant.invoke(alloc, &request, steps)
+//! ```
+//!
+//! Another one comes to the state of `from` by an update, which leads on from `base`, or by the whole state:
+//!
+//! ```
+//! let mut to = base.copy(alloc)?;
+//! move_update(alloc, &from, &base, &mut to)?;
+//! let nine = 9u64.to_be_bytes();
+//! let state = to.get_state(alloc)?;
+//! assert!(rt; state.bytes() == nine.as_slice(), "by the update");
+//! let mut other = Account::new(1);
+//! move_state(alloc, &from, &mut other)?;
+//! ```
 #![tactic(auto)]
 
 mod counter;

@@ -3,6 +3,17 @@
 //! read and written, and that a failure is answered only where there was one. Forms in memory tell
 //! all of it. Of the adapters to the system a run sees their faults alone; their own clauses say that they
 //! answer what their device did.
+//!
+//! A sink in memory with room for 8 bytes, whose second write fails:
+//!
+//! ```
+//! let mut sink = MemSink::new(rt.alloc(), 8, &[2])?;
+//! assert_eq!(rt; write_all(&mut sink, b"abc"), WholeWrite::All);
+//! assert_eq!(rt; write_all(&mut sink, b"de"), WholeWrite::Failed);
+//! assert_eq!(rt; write_all(&mut sink, b""), WholeWrite::All);
+//! assert_eq!(rt; write_all(&mut sink, b"fg"), WholeWrite::All);
+//! assert_eq!(rt; sink.bytes(), b"abcfg".as_slice());
+//! ```
 #![tactic(auto)]
 
 mod keepers;

@@ -2,6 +2,29 @@
 //! (GIOP chapter, "GIOP Message Header" and "Fragment Message".)
 //!
 //! `specs/` say it of the whole list of bytes (`stream`); the framer is fed pieces of it.
+//!
+//! A framer that is fed the rest of a request:
+//!
+//! ```
+//! framer.feed(&link[cut..])?;
+//! match framer.next() {
+//!     Ok(Some(received)) => {
+//!         assert!(rt; is_balance(&received.0));
+//!         assert!(rt; received.1 == Order::Little);
+//!     }
+//!     _ => assert!(rt; false, "no request"),
+//! }
+//! ```
+//!
+//! A session gives a server what it is to serve, and says how the link ends:
+//!
+//! ```
+//! match session.next()? {
+//!     SessionStep::Serve(message) => ids.push(id_of(&message.0))?,
+//!     SessionStep::Wait => return Ok((ids, session.at_end())),
+//!     SessionStep::End(end) => return Ok((ids, end)),
+//! }
+//! ```
 #![tactic(auto)]
 
 mod begun;

@@ -1,5 +1,23 @@
 //! The management of object groups: the next view of a group, whom it is told, and the directory of all
 //! groups. (Chapter 23, `ObjectGroupManager`.)
+//!
+//! A deleted group keeps its number:
+//!
+//! ```
+//! let mut groups = Groups::new(alloc);
+//! let first = groups.add(type_id(alloc)?, Style::Cold)?;
+//! let second = groups.add(type_id(alloc)?, Style::Active)?;
+//! assert!(rt; groups.delete(first).is_ok());
+//! let third = groups.add(type_id(alloc)?, Style::Warm)?;
+//! assert_eq!(rt; (first.0, second.0, third.0), (1, 2, 3));
+//! ```
+//!
+//! Who is told of a new view, by one message each:
+//!
+//! ```
+//! let out = view_sent(rt.alloc(), &view_of(old), &view_of(new))?;
+//! assert_eq!(rt; out.as_slice().len(), hosts.len());
+//! ```
 #![tactic(auto)]
 
 mod changing;

@@ -1,6 +1,27 @@
 //! References of objects and of object groups: the IOR, its IIOP profiles, and the components by which
 //! chapter 23 makes a reference one of a group. (GIOP chapter, "IOR profiles"; chapter 23, "Object
 //! group references".)
+//!
+//! The reference of a view, whose members have these ports:
+//!
+//! ```
+//! let ports = Vec::from_slice(alloc, &[2000_u16, 2001, 2002])?;
+//! let ports = Ports::from_vec(ports);
+//! ref_of(alloc, GroupId(1), &type_id, &view, &ports)
+//! ```
+//!
+//! The group that a text names:
+//!
+//! ```
+//! let Ok(reference) = from_text(alloc, BANK.as_bytes()) else {
+//!     return Err(NoMemory);
+//! };
+//! let Ok(group) = group_ref_of(alloc, &reference) else {
+//!     return Err(NoMemory);
+//! };
+//! assert!(rt; group.domain.bytes() == b"ftc".as_slice());
+//! assert_eq!(rt; group.group.0, 1);
+//! ```
 #![tactic(auto)]
 
 mod choices;

@@ -3,6 +3,22 @@
 //!
 //! `specs/` say it over a port, which is whatever answers requests (`Port`): `step` of a message, `served`
 //! of a session's messages, `linked` of a link's bytes.
+//!
+//! A host serves a link: `take` answers a message by [`step`], and `end` writes what [`end_bytes`] says.
+//!
+//! ```
+//! match session.next() {
+//!     Ok(SessionStep::Serve(received)) => take(received, &mut written, alloc)?,
+//!     Ok(SessionStep::Wait) => return end(session.at_end(), written, alloc),
+//!     Ok(SessionStep::End(how)) => return end(how, written, alloc),
+//!     Err(NoMemory) => return Err(NoMemory),
+//! }
+//! ```
+//!
+//! ```
+//! let bytes = step(alloc, &Lonely, written, HostNo(0), received)?;
+//! written.write(bytes)
+//! ```
 #![tactic(auto)]
 
 mod answering;

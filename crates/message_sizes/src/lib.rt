@@ -1,5 +1,17 @@
 //! How many bytes the messages of a script have, as messages of GIOP 1.2: so a limit on bytes in messages is
 //! counted without writing them. (GIOP chapter, "GIOP Message Formats".)
+//!
+//! A text of two letters as a Reply, counted and then written:
+//!
+//! ```
+//! let value = Outcome::Value(text(alloc)?);
+//! assert_eq!(rt; outcome_size(gives, &value), 31);
+//! let answer = PortAnswer::Done {
+//!     outcome: value,
+//!     gives,
+//! };
+//! assert_eq!(rt; length_of(alloc, &answer)?, 31);
+//! ```
 #![tactic(auto)]
 
 mod answers;

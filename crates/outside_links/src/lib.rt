@@ -1,4 +1,21 @@
 //! Links of running hosts: what dials, accepts and binds, as traits that count their faults.
+//!
+//! Two ends of a link. What one sends comes to the other, and then the end:
+//!
+//! ```
+//! let mut door = network.bind()?;
+//! let mut caller = network.caller();
+//! let near = caller.dial(name, door.port())?;
+//! let far = door.accept()?;
+//! Some((near, far))
+//! ```
+//!
+//! ```
+//! assert_eq!(rt; near.send(b"abc"), Put::Took(3));
+//! near.close();
+//! assert_eq!(rt; far.receive(&mut into), Got::Bytes(3));
+//! assert_eq!(rt; far.receive(&mut into), Got::End);
+//! ```
 #![tactic(auto)]
 
 mod links;

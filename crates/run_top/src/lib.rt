@@ -1,6 +1,15 @@
 //! The run of `ftc`: the words of the command line, the world that the lines of a script act on, the
 //! counts of a script that is made, and the status with its text. What the whole run is,
 //! specs/Headline.antt says.
+//!
+//! A script is run from memory into memory:
+//!
+//! ```
+//! let mut input = MemSource::new(alloc, script, reads)?;
+//! let mut out = MemSink::new(alloc, 10_000, writes)?;
+//! let mut err = MemSink::new(alloc, 1_000, &[])?;
+//! let status = ftc_run(alloc, words, &mut input, &mut out, &mut err, steps);
+//! ```
 #![tactic(auto)]
 
 mod laws;

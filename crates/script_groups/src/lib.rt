@@ -1,5 +1,26 @@
 //! The groups of a script: each has a name, a kind of servant, and the core of a group over a log in memory.
 //! (Chapter 23, "Replication Management".)
+//!
+//! A group is made, an event comes to it, and it is shown:
+//!
+//! ```
+//! let name = name_of(alloc, "acct")?;
+//! let members = three();
+//! ScriptGroup::new(alloc, GroupId(1), name, Kind::Account, Style::Cold, members)
+//! ```
+//!
+//! ```
+//! match group.act(alloc, event, steps) {
+//!     GroupAnswer::NoMemory => Err(NoMemory),
+//!     _ => Ok(()),
+//! }
+//! ```
+//!
+//! ```
+//! let report = group.shown(alloc)?;
+//! let text = report.into_bytes();
+//! assert!(rt; text.bytes() == wanted.as_bytes(), "{wanted}");
+//! ```
 #![tactic(auto)]
 
 mod groups;

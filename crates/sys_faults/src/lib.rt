@@ -1,5 +1,17 @@
 //! The system exceptions of the ORB: what went wrong, why, and whether the request was run. (CORBA
 //! chapter, "Standard Exceptions".)
+//!
+//! An exception as the body of a reply:
+//!
+//! ```
+//! let fault = SysFault {
+//!     kind: SysKind::Transient,
+//!     minor: 1,
+//!     completed: Completed::No,
+//! };
+//! let bytes = write_fault(rt.alloc(), &fault, Order::Big)?;
+//! assert_eq!(rt; bytes.bytes(), TRANSIENT);
+//! ```
 #![tactic(auto)]
 
 mod answers;

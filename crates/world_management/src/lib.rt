@@ -1,5 +1,19 @@
 //! Lines of a script that make hosts, groups and clients, that stop and start hosts, and by which groups are managed
 //! and read. (Chapter 23, ObjectGroupManager, GenericFactory and PropertyManager.)
+//!
+//! ft_world calls a function for each such line. Two scripts, and the error text with which each ends: a group's hosts
+//! must be there, and differ.
+//!
+//! ```
+//! (
+//!     b"hosts 1\ngroup g account cold 1\n",
+//!     b"ftc: line 2: unknown\n",
+//! ),
+//! (
+//!     b"hosts 1\ngroup g account cold 0 0\n",
+//!     b"ftc: line 2: again\n",
+//! ),
+//! ```
 #![tactic(auto)]
 
 mod creating;

@@ -1,5 +1,7 @@
 //! Lines of a script by which a group's members are watched and faults are told: `poll`, `sweep`, `subscribe`,
 //! `unsubscribe`, `pull`; and the monitor's messages as they come. (Chapter 23, Fault Management.)
+//!
+//! `examples/monitor.script` has each of these lines but `unsubscribe`.
 #![tactic(auto)]
 
 mod arriving;

@@ -1,5 +1,7 @@
 //! Lines of a script by which states and updates go from a group's members to others: `checkpoint`, `update`.
 //! (Chapter 23, Logging and Recovery Management.)
+//!
+//! `examples/warm-backup.script` has both.
 #![tactic(auto)]
 
 mod checkpoints;
