@@ -116,12 +116,19 @@ impl CdrWriter {
     pub fn finish(self) -> Bytes
         ensures { result ≡ self.text }
     {
+        Bytes::from_vec(self.into_vec())
+    }
+
+    /// The text as a vector. It takes no memory.
+    pub fn into_vec(self) -> Vec<u8>
+        ensures { result.items ≡ self.text }
+    {
         let CdrWriter {
             order: _,
             place: _,
             text,
         } = self;
-        Bytes::from_vec(text)
+        text
     }
 
     /// Takes the text back to its first `length` bytes; a shorter text stays. It takes no memory.

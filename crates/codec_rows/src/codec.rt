@@ -296,7 +296,8 @@ fn a_text_is_taken_back(rt: HostRuntime) {
     assert_eq!(rt; writer.bytes(), b"\x01\0\x02\0".as_slice());
     writer.truncate(1);
     assert_eq!(rt; writer.write_octets(b"x"), Ok(()));
-    assert_eq!(rt; writer.bytes(), b"\x01\0\0\0\x01\0\0\0x".as_slice());
+    let text = writer.into_vec();
+    assert_eq!(rt; text.as_slice(), b"\x01\0\0\0\x01\0\0\0x".as_slice());
 }
 
 fn args(alloc: Global, order: Order, align: u8, body: &[u8]) -> Result<Bytes, ArgsFault>

@@ -1,5 +1,6 @@
 pub mod Text
 pub mod Counting
+pub mod Stored
 pub mod Members
 pub mod Views
 pub mod Canonical

@@ -31,6 +31,7 @@ mod moves;
 mod numbers;
 mod requests;
 mod servants;
+mod stored;
 mod text;
 mod values;
 mod views;

@@ -4,17 +4,20 @@ use crate::{
 };
 use std::alloc::Global;
 
-// The least and the greatest length of a name, the first beyond them, and a zero byte's place.
+// The least and the greatest length of a name, the first beyond them, the most that needs no memory of its own and
+// one more, and a zero byte's place.
 #[test]
 fn names(rt: HostRuntime) {
     let alloc = rt.alloc();
     let limit = [b'x'; 255];
     let over = [b'x'; 256];
     let zeros = [0; 256];
-    let rows: [(&[u8], Result<usize, NameFault>); 9] = [
+    let rows: [(&[u8], Result<usize, NameFault>); 11] = [
         (b"", Err(NameFault::Empty)),
         (b"g", Ok(1)),
         (b"deposit", Ok(7)),
+        (b"abcdefghijklmnopqrstuvw", Ok(23)),
+        (b"abcdefghijklmnopqrstuvwx", Ok(24)),
         (&limit, Ok(255)),
         (&over, Err(NameFault::Long(256))),
         (&zeros, Err(NameFault::Long(256))),
@@ -29,10 +32,40 @@ fn names(rt: HostRuntime) {
             Ok(name) => {
                 assert!(rt; *want == Ok(length), "at {length}");
                 assert!(rt; name.bytes() == *text, "at {length}");
+                let Ok(copied) = name.copy(alloc) else {
+                    continue;
+                };
+                assert!(rt; copied.bytes() == *text, "at {length}");
             }
             Err(fault) => assert!(rt; *want == Err(fault), "at {length}"),
         }
     }
+}
+
+// No bytes, the most that need no memory of their own, one more, and many; and those of a vector, however few.
+#[test]
+fn bytes_of_each_size(rt: HostRuntime) -> Result<(), NoMemory> {
+    let alloc = rt.alloc();
+    let many = [7; 255];
+    let rows: [&[u8]; 5] = [
+        b"",
+        b"\0\0\0\0\0\0\0\x05",
+        b"\0bcdefghijklmnopqrstuvw",
+        b"\0bcdefghijklmnopqrstuvw\0",
+        &many,
+    ];
+    for text in &rows {
+        let length = text.len();
+        let first = Bytes::of(alloc, text)?;
+        let second = first.copy(alloc)?;
+        let third = Bytes::from_vec(Vec::from_slice(alloc, text)?);
+        let last = third.copy(alloc)?;
+        assert!(rt; first.bytes() == *text, "at {length}");
+        assert!(rt; second.bytes() == *text, "at {length}");
+        assert!(rt; third.is(&first), "at {length}");
+        assert!(rt; last.is(&second), "at {length}");
+    }
+    Ok(())
 }
 
 fn withdrawal(alloc: Global) -> Result<Request, NameFault> {

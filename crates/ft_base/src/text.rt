@@ -3,34 +3,35 @@ ghost use Rattle.std.specs.Str.{bytes_eq};
 ghost use Rattle.ft_base.specs.Text.{IsName, name_refusal, zero_place};
 
 use crate::memory::NoMemory;
-use std::alloc::{AllocError, AllocFailed, Global};
+use crate::stored::Stored;
+use std::alloc::Global;
 use std::marker::Model;
 use thiserror::Error;
 
 /// A text of 1 to 255 bytes, none of them 0: a client's id, an operation, a group's name.
 #[derive(Debug, Drop)]
 pub struct Name {
-    text: Vec<u8>,
+    text: Stored,
 }
 
 impl Model for Name {
     ghost Value = { List ℕ };
 
-    ghost view = { λ n. n.text.items };
+    ghost view = { λ n. n.text };
 
-    ghost invariant = { λ n. IsName n.text.items };
+    ghost invariant = { λ n. IsName n.text };
 }
 
 /// Bytes of any content.
 #[derive(Debug, Drop)]
 pub struct Bytes {
-    bytes: Vec<u8>,
+    bytes: Stored,
 }
 
 impl Model for Bytes {
     ghost Value = { List ℕ };
 
-    ghost view = { λ b. b.bytes.items };
+    ghost view = { λ b. b.bytes };
 }
 
 /// Why a text is no [`Name`], with its length or the place of its first zero byte.
@@ -73,9 +74,9 @@ impl Name {
         if let Some(place) = first_zero(text) {
             return Err(NameFault::Zero(place as u32));
         }
-        match Vec::from_slice(alloc, text) {
+        match Stored::of(alloc, text) {
             Ok(text) => Ok(Name { text }),
-            Err(_) => Err(NameFault::NoMemory),
+            Err(NoMemory) => Err(NameFault::NoMemory),
         }
     }
 
@@ -98,7 +99,7 @@ impl Name {
     pub fn copy(&self, alloc: Global) -> Result<Name, NoMemory>
         ensures { IfOk result (λ name. name ≡ self.now) }
     {
-        let text = Vec::from_slice(alloc, self.text.as_slice())?;
+        let text = self.text.copy(alloc)?;
         Ok(Name { text })
     }
 }
@@ -108,7 +109,7 @@ impl Bytes {
     pub fn of(alloc: Global, text: &[u8]) -> Result<Bytes, NoMemory>
         ensures { IfOk result (λ bytes. bytes ≡ text.now) }
     {
-        let bytes = Vec::from_slice(alloc, text)?;
+        let bytes = Stored::of(alloc, text)?;
         Ok(Bytes { bytes })
     }
 
@@ -116,15 +117,9 @@ impl Bytes {
     pub fn from_vec(bytes: Vec<u8>) -> Bytes
         ensures { result ≡ bytes.items }
     {
-        Bytes { bytes }
-    }
-
-    /// The bytes as a vector. It takes no memory.
-    pub fn into_vec(self) -> Vec<u8>
-        ensures { result.items ≡ self }
-    {
-        let Bytes { bytes } = self;
-        bytes
+        Bytes {
+            bytes: Stored::from_vec(bytes),
+        }
     }
 
     /// The bytes themselves.
@@ -145,6 +140,7 @@ impl Bytes {
     pub fn copy(&self, alloc: Global) -> Result<Bytes, NoMemory>
         ensures { IfOk result (λ bytes. bytes ≡ self.now) }
     {
-        Bytes::of(alloc, self.bytes())
+        let bytes = self.bytes.copy(alloc)?;
+        Ok(Bytes { bytes })
     }
 }

@@ -265,7 +265,7 @@ pub fn with_size(writer: CdrWriter) -> Bytes
     ensures { result ≡ with_size writer.order writer.text }
 {
     let order = writer.order();
-    let mut text = writer.finish().into_vec();
+    let mut text = writer.into_vec();
     put_size(text.as_mut_slice(), order);
     Bytes::from_vec(text)
 }

@@ -290,7 +290,7 @@ fn requests_are_admitted_again(rt: HostRuntime) -> Result<(), NoMemory> {
 
 /// A record with this unsigned long in place of its four octets at a place.
 fn changed(alloc: Global, record: &Bytes, place: usize, word: u32) -> Result<Bytes, NoMemory> {
-    let mut bytes = record.copy(alloc)?.into_vec();
+    let mut bytes = Vec::from_slice(alloc, record.bytes())?;
     for (at, octet) in bytes.iter_mut().skip(place).zip(word.to_be_bytes()) {
         *at = octet;
     }

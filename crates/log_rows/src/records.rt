@@ -24,7 +24,7 @@ fn is_read(alloc: Global, piece: &[u8]) -> Result<bool, NoMemory> {
 
 /// Whether a piece is read with this unsigned long in place of its four octets at a place.
 fn is_read_with(alloc: Global, piece: &[u8], place: usize, word: u32) -> Result<bool, NoMemory> {
-    let mut bytes = Bytes::of(alloc, piece)?.into_vec();
+    let mut bytes = Vec::from_slice(alloc, piece)?;
     for (at, octet) in bytes.iter_mut().skip(place).zip(word.to_be_bytes()) {
         *at = octet;
     }
@@ -97,7 +97,7 @@ fn grown(
     from: u8,
     end: &[u8],
 ) -> Result<Vec<u8>, NoMemory> {
-    let mut bytes = Bytes::of(alloc, front)?.into_vec();
+    let mut bytes = Vec::from_slice(alloc, front)?;
     for number in 0..count {
         bytes.push(number.wrapping_add(from))?;
     }

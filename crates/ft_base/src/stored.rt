@@ -1,0 +1,141 @@
+//! Bytes that lie in the value itself where they are few.
+ghost use Rattle.std.specs.Prelude.{◌≡◌, ◌≤◌, length, IsOk, IfOk};
+
+use crate::memory::NoMemory;
+use std::alloc::Global;
+use std::fmt;
+use std::marker::Model;
+
+/// The most bytes that need no memory of their own: as many as make a short text as large as a `Vec`.
+pub(crate) const SHORT_LIMIT: usize = 23;
+
+/// At most 23 bytes, in the value itself.
+#[derive(Drop)]
+struct Short {
+    cells: [u8; SHORT_LIMIT],
+    len: u8,
+}
+
+impl Model for Short {
+    ghost use Rattle.std.specs.Prelude.{ℕ, List, take, ◌≤◌};
+
+    ghost Value = { List ℕ };
+
+    ghost view = { λ s. take s.len s.cells };
+
+    ghost invariant = { λ s. s.len ≤ 23 };
+}
+
+#[derive(Drop)]
+enum Kept {
+    Here(Short),
+    Apart(Vec<u8>),
+}
+
+/// Bytes of any number.
+pub(crate) struct Stored {
+    kept: Kept,
+}
+
+// A call, so that whoever drops a text sees no cases.
+impl Drop for Stored {
+    fn drop(self) {
+        let Stored { kept: _kept } = self;
+    }
+}
+
+impl Model for Stored {
+    ghost use Rattle.std.specs.Prelude.{ℕ, List};
+
+    ghost Value = { List ℕ };
+
+    ghost use Rattle.ft_base.specs.Stored.{kept_bytes};
+
+    ghost view = { λ s. kept_bytes s.kept };
+}
+
+impl Short {
+    fn of(text: &[u8]) -> Short
+        requires { length text.now ≤ SHORT_LIMIT }
+        ensures { result ≡ text.now }
+    {
+        let mut cells = [0; SHORT_LIMIT];
+        cells[..text.len()].copy_from_slice(text);
+        Short {
+            cells,
+            len: text.len() as u8,
+        }
+    }
+
+    #[inline]
+    fn as_slice(&self) -> &[u8]
+        ensures { result.now ≡ self.now }
+    {
+        &self.cells[..self.len as usize]
+    }
+
+    #[inline]
+    fn copy(&self) -> Short
+        ensures { result ≡ self.now }
+    {
+        Short {
+            cells: self.cells,
+            len: self.len,
+        }
+    }
+}
+
+impl Stored {
+    /// A copy of these bytes. A short text takes no memory.
+    pub(crate) fn of(alloc: Global, text: &[u8]) -> Result<Stored, NoMemory>
+        ensures value { IfOk result (λ stored. stored ≡ text.now) }
+        ensures short { length text.now ≤ SHORT_LIMIT → IsOk result }
+    {
+        let kept = if text.len() <= SHORT_LIMIT {
+            Kept::Here(Short::of(text))
+        } else {
+            Kept::Apart(Vec::from_slice(alloc, text)?)
+        };
+        Ok(Stored { kept })
+    }
+
+    /// The bytes of a vector. It takes no memory.
+    #[inline]
+    pub(crate) fn from_vec(bytes: Vec<u8>) -> Stored
+        ensures { result ≡ bytes.items }
+    {
+        Stored {
+            kept: Kept::Apart(bytes),
+        }
+    }
+
+    /// The bytes themselves.
+    #[inline]
+    pub(crate) fn as_slice(&self) -> &[u8]
+        ensures { result.now ≡ self.now }
+    {
+        match &self.kept {
+            Kept::Here(short) => short.as_slice(),
+            Kept::Apart(bytes) => bytes.as_slice(),
+        }
+    }
+
+    /// Equal bytes. Short ones take no memory.
+    pub(crate) fn copy(&self, alloc: Global) -> Result<Stored, NoMemory>
+        ensures value { IfOk result (λ stored. stored ≡ self.now) }
+        ensures short { length self.now ≤ SHORT_LIMIT → IsOk result }
+    {
+        match &self.kept {
+            Kept::Here(short) => Ok(Stored {
+                kept: Kept::Here(short.copy()),
+            }),
+            Kept::Apart(bytes) => Stored::of(alloc, bytes.as_slice()),
+        }
+    }
+}
+
+impl fmt::Debug for Stored {
+    fn fmt<W: fmt::Write>(&self, f: &mut fmt::Formatter<W>) -> fmt::Result {
+        fmt::Debug::fmt(self.as_slice(), f)
+    }
+}
