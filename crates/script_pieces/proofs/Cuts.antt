@@ -1,11 +1,9 @@
 -- Bytes cut at an LF, and the lines of what is joined.
-use Rattle.std.proofs.Common.{◌≡◌, ℕ, zero, suc, ◌+◌, ◌<◌, ◌≤◌, Bool, true, false, cond, List, [], ◌∷◌, ◌++◌, length, get_or, take, drop, Some, None, refl, sym, ap, ◌∙◌, subst, arith, ltb, ⊎_elim}
-use Rattle.std.specs.List.{position, position_or_len}
-use Rattle.std.specs.Prelude.{◌==◌, not}
-use Rattle.std.proofs.lemmas.List.Quantifiers.{position-Some}
+use Rattle.std.proofs.Common.{◌≡◌, ℕ, zero, suc, ◌+◌, ◌<◌, Bool, true, false, List, [], ◌∷◌, ◌++◌, length, get_or, take, drop, refl, sym, ap, ◌∙◌, subst, arith}
+use Rattle.std.specs.Prelude.{◌==◌}
 use Rattle.std.proofs.lemmas.List.{get_or-take, length-take}
-use Rattle.std.proofs.lemmas.List.Sums.{prefix_len_passes}
-use Rattle.std.proofs.lemmas.Bool.{eqb-true, cases_lt, cond_below, false≢true}
+use Rattle.std.proofs.lemmas.Bool.{eqb-true}
+use Rattle.memchr.specs.Find.{NoneBefore, Nowhere, Passes, is_byte}
 use Rattle.script_pieces.specs.Runs.{lines_of, text_of}
 use Rattle.script_pieces.specs.Feeds.{IsInLine}
 
@@ -45,39 +43,29 @@ take_capped zero xs ys = refl
 take_capped (suc n) [] ys = refl
 take_capped (suc n) (x ∷ xs) ys = ap (λ (zs : List ℕ). x ∷ zs) (take_capped n xs ys)
 
-not_true : (b : Bool) → not b ≡ true → b ≡ false
-not_true true e = absurd (false≢true e)
-not_true false e = refl
+not_so : (b : Bool) → (b ≡ true → ⊥) → b ≡ false
+not_so true h = absurd (h refl)
+not_so false h = refl
 
-some_none : (n : ℕ) → Some n ≡ None → ⊥
-some_none n e = cc
-
--- a byte before the first LF
-not_here : (xs : List ℕ) (k : ℕ) → k < position_or_len (λ b. b == 10) xs → (get_or xs k 0 == 10) ≡ false
-not_here xs k h = not_true (get_or xs k 0 == 10) (prefix_len_passes (λ (b : ℕ). not (b == 10)) xs k 0 h)
-
-no_place : (n m : ℕ) → cond (ltb n m) (Some n) None ≡ None → m ≤ n
-no_place n m e = ⊎_elim (λ (l : n < m). absurd (some_none n (cond_below n m (Some n) None l ∙ e))) (λ (l : m ≤ n). l) (cases_lt n m)
+-- a place before the first LF
+not_here : (xs : List ℕ) (i k : ℕ) → Nowhere (Passes (is_byte 10) xs) 0 i → k < i → (get_or xs k 0 == 10) ≡ false
+not_here xs i k before l = not_so (get_or xs k 0 == 10) (before k (omega arith) l)
 
 within : (xs : List ℕ) (i k : ℕ) → k < length (take i xs) → k < i
 within xs i k h = omega (arith, simp length-take at h)
 
-none_here : (xs : List ℕ) → length xs ≤ position_or_len (λ b. b == 10) xs → IsInLine xs
-none_here xs h = in_line_by xs (λ k l. not_here xs k (omega arith))
+pub cut_none : (xs : List ℕ) → Nowhere (Passes (is_byte 10) xs) 0 (length xs) → IsInLine xs
+cut_none xs h = in_line_by xs (λ k l. not_here xs (length xs) k h l)
 
-pub cut_none : (xs : List ℕ) → position (λ b. b == 10) xs ≡ None → IsInLine xs
-cut_none xs e = none_here xs (no_place (position_or_len (λ b. b == 10) xs) (length xs) e)
-
-pub cut_some : (xs front rest : List ℕ) (i : ℕ) → position (λ b. b == 10) xs ≡ Some i → front ≡ take i xs → rest ≡ drop (i + 1) xs
-    → IsInLine front × (xs ≡ front ++ 10 ∷ rest)
-cut_some xs front rest i e f r =
-    let at = position-Some (λ (b : ℕ). b == 10) xs i 0 e in
+pub cut_some : (xs front rest : List ℕ) (i : ℕ) → NoneBefore (Passes (is_byte 10) xs) 0 (length xs) i → Passes (is_byte 10) xs i
+    → front ≡ take i xs → rest ≡ drop (i + 1) xs → IsInLine front × (xs ≡ front ++ 10 ∷ rest)
+cut_some xs front rest i none is f r =
     let in_front_line : IsInLine (take i xs) =
-    in_line_by (take i xs) (λ k l. ap (λ (b : ℕ). b == 10) (get_or-take i xs k 0 (within xs i k l)) ∙ at.2 k (within xs i k l)) in
+    in_line_by (take i xs) (λ k l. ap (λ (b : ℕ). b == 10) (get_or-take i xs k 0 (within xs i k l)) ∙ not_here xs i k none.before (within xs i k l)) in
     let next : suc i ≡ i + 1 = omega arith in
-    let here : get_or xs i 0 ≡ 10 = eqb-true (get_or xs i 0) 10 at.1 in (
+    let here : get_or xs i 0 ≡ 10 = eqb-true (get_or xs i 0) 10 is in (
       subst IsInLine (sym f) in_front_line,
-      cut_at xs i at.0
+      cut_at xs i none.high
           ∙ ap (λ (b : ℕ). take i xs ++ b ∷ drop (suc i) xs) here
           ∙ ap (λ (n : ℕ). take i xs ++ 10 ∷ drop n xs) next
           ∙ ap (λ (ys : List ℕ). ys ++ 10 ∷ drop (i + 1) xs) (sym f)

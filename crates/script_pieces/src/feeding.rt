@@ -1,10 +1,12 @@
-ghost use Rattle.std.specs.Prelude.{◌≡◌, ℕ, ◌+◌, ◌<◌, ◌≤◌, ◌==◌, ◌∷◌, ◌++◌, [], length, take, drop, position, MatchOption, IfSome, IfOk, nat_lt};
+ghost use Rattle.std.specs.Prelude.{◌≡◌, ℕ, ◌+◌, ◌<◌, ◌≤◌, ◌==◌, ◌∷◌, ◌++◌, [], length, take, drop, MatchOption, IfSome, IfOk, nat_lt};
+ghost use Rattle.memchr.specs.Find.{IsFirstByte, is_byte};
 ghost use Rattle.script_pieces.specs.Runs.{script_limit};
 ghost use Rattle.script_pieces.specs.Feeds.{IfGoes, IsInLine, IsActed, IsFed, IsDone, IfOn, Trace, trace, point, resume, start, kept_limit, place_after_line};
 
 use crate::actors::{Actor, LineResult};
 use ft_base::{NoMemory, Steps};
 use ft_outside::{Sink, WholeWrite, write_all};
+use memchr::memchr;
 use std::alloc::Global;
 use std::marker::Model;
 use std::sync::ledger::Ledger;
@@ -245,13 +247,12 @@ fn behind(text: &[u8], count: usize) -> &[u8]
 }
 
 fn line_end(bytes: &[u8]) -> Option<usize>
-    ensures place { result ≡ position (λ b. b == 10) bytes.now }
+    ensures place { IsFirstByte (is_byte 10) bytes.now result }
     ensures within { IfSome result (λ place. place < length bytes.now) }
 {
-    bytes.iter().position(|byte| *byte == b'\n')
+    memchr(b'\n', bytes)
 }
 
-#[tactic(auto, using(crate::proofs::Cuts::cut_none))]
 fn split_line(bytes: &[u8]) -> Option<(&[u8], &[u8])>
     ensures { MatchOption result (IsInLine bytes.now)
         (λ parts. IsInLine parts.0.now × (bytes.now ≡ parts.0.now ++ 10 ∷ parts.1.now)) }
