@@ -7,3 +7,4 @@ pub mod ReadingLemmas
 pub mod LineLemmas
 pub mod OptionLemmas
 pub mod ArgumentLemmas
+pub mod SplitLemmas

@@ -1,32 +1,66 @@
-ghost use Rattle.std.specs.Prelude.{◌≡◌, ℕ, ◌<◌, ◌≤◌, ◌==◌, List, [], ◌∷◌, length, IfOk, MatchOption};
-ghost use Rattle.std.specs.List.{list_all};
+ghost use Rattle.std.specs.Prelude.{◌≡◌, ℕ, ◌+◌, ◌<◌, ◌≤◌, ◌==◌, List, [], ◌∷◌, ◌++◌, length, take, drop, filter, IfOk, IfSome, OnOk, MatchOption};
+ghost use Rattle.std.specs.List.{list_all, slice_split};
 ghost use Rattle.std.specs.Option.{option_copied};
+ghost use Rattle.memchr.specs.Find.{IsFirstByte};
 ghost use Rattle.fault_script.specs.Words.{is_blank, is_filled, words, is_comment, is_name_byte, is_script_name, texts, only};
 
-use std::alloc::{AllocError, Global};
+use ft_base::NoMemory;
+use memchr::memchr3;
+use std::alloc::Global;
 
 /// The longest name of a group or of a client, in bytes.
 const SCRIPT_NAME_LIMIT: usize = 64;
 
-fn is_blank(byte: u8) -> bool
-    ensures { result ≡ is_blank byte }
+fn first_blank(line: &[u8]) -> Option<usize>
+    ensures place { IsFirstByte is_blank line.now result }
+    ensures within { IfSome result (λ place. place < length line.now) }
 {
-    byte == b' ' || byte == b'\t' || byte == b'\r'
+    memchr3(b' ', b'\t', b'\r', line)
 }
 
-fn is_filled(word: &[u8]) -> bool
-    ensures { result ≡ is_filled word.now }
+// What stands before a place and what behind it.
+fn parted(line: &[u8], place: usize) -> (&[u8], &[u8])
+    requires { place < length line.now }
+    ensures front { result.0.now ≡ take place line.now }
+    ensures behind { result.1.now ≡ drop (place + 1) line.now }
 {
-    !word.is_empty()
+    (&line[..place], &line[place + 1..])
+}
+
+// What stands before the first blank and what behind it.
+fn cut(line: &[u8]) -> Option<(&[u8], &[u8])>
+    ensures parts { MatchOption result (slice_split is_blank line.now ≡ line.now ∷ [])
+        (λ parts. slice_split is_blank line.now ≡ parts.0.now ∷ slice_split is_blank parts.1.now) }
+    ensures shorter { IfSome result (λ parts. length parts.1.now < length line.now) }
+{
+    match first_blank(line) {
+        None => None,
+        Some(place) => Some(parted(line, place)),
+    }
+}
+
+// Between two blanks side by side there is no word.
+fn push_filled<'a>(words: &mut Vec<&'a [u8]>, word: &'a [u8]) -> Result<(), NoMemory>
+    ensures { OnOk result (texts words.new.items ≡ texts words.old.items ++ filter is_filled (word.now ∷ [])) }
+{
+    if !word.is_empty() {
+        words.push(word)?;
+    }
+    Ok(())
 }
 
 /// The words of a line, in order.
-pub(crate) fn split_words(alloc: Global, line: &[u8]) -> Result<Vec<&[u8]>, AllocError>
+pub(crate) fn split_words(alloc: Global, line: &[u8]) -> Result<Vec<&[u8]>, NoMemory>
     ensures { IfOk result (λ v. texts v.items ≡ words line.now) }
 {
-    line.split(|byte| is_blank(*byte))
-        .filter(|word| is_filled(*word))
-        .collect(alloc)
+    let mut found = Vec::new(alloc);
+    let mut rest = line;
+    'words: while let Some((word, behind)) = cut(rest) {
+        push_filled(&mut found, word)?;
+        rest = behind;
+    }
+    push_filled(&mut found, rest)?;
+    Ok(found)
 }
 
 /// Whether a line that begins with this word is a comment.
