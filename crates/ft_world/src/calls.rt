@@ -1,6 +1,6 @@
 //! What clients do, and `call`.
-ghost use Rattle.std.specs.Prelude.{◌≡◌, ℕ, ◌+◌, ◌<◌, ◌≤◌, ◌^◌, ◌++◌, None, IfOk, OnOk, Some, length, slice_get, unwrap_or};
-ghost use Rattle.std.specs.List.{All};
+ghost use Rattle.std.specs.Prelude.{◌≡◌, ℕ, ◌+◌, ◌<◌, ◌≤◌, ◌^◌, [], ◌++◌, None, IfOk, OnOk, Some, length, slice_get, unwrap_or};
+ghost use Rattle.std.specs.List.{All, cons_option};
 ghost use Rattle.script_clients.specs.Clients.{Client, taking};
 ghost use Rattle.script_groups.specs.Groups.{ScriptGroup as Group, group_numbered, placed};
 ghost use Rattle.script_groups.specs.References.{newest_reference};
@@ -96,17 +96,17 @@ fn push_adopted(
     })
 }
 
-/// What a client does; it waits for the outcome of an operation that gives this. The report has what is
-/// printed where it does nothing.
+/// What a client does; it waits for the outcome of an operation that gives this. The line is printed where it
+/// does nothing.
 pub(crate) fn does(
     world: &mut World,
     client: usize,
     name: &Name,
     gives: Option<Par>,
-    idle: ReportLines,
+    idle: Option<ReportLine>,
     told: Told,
 ) -> Result<ReportLines, NoMemory>
-    ensures { (calls : ℕ) → Does (does world.old client name.now gives idle told) result world.new calls calls }
+    ensures { (calls : ℕ) → Does (does world.old client name.now gives (cons_option idle []) told) result world.new calls calls }
 {
     let alloc = world.alloc();
     let mut report = ReportLines::new(alloc);
@@ -136,7 +136,10 @@ pub(crate) fn does(
                 },
             )
         }
-        Told::Nothing => Ok(idle),
+        Told::Nothing => match idle {
+            None => Ok(report),
+            Some(line) => one_line(alloc, line),
+        },
     }
 }
 
@@ -212,7 +215,7 @@ fn start(
         },
     };
     let told = world.start_at(client, begun)?;
-    does(world, client, &name, None, ReportLines::new(alloc), told)
+    does(world, client, &name, None, None, told)
 }
 
 // The words after the operation were read: a client with an open call is busy.

@@ -608,10 +608,10 @@ fn hear(world: &mut World, number: u64, reply: Reply) -> Result<ReportLines, NoM
         return Ok(ReportLines::new(alloc));
     };
     let name = from.name().copy(alloc)?;
-    let idle = one_line(alloc, ReportLine::UnheardReply { message: number })?;
+    let idle = ReportLine::UnheardReply { message: number };
     let heard = heard_of(world, group, answer)?;
     let told = world.hear_at(client, id, heard)?;
-    does(world, client, &name, gives, idle, told)
+    does(world, client, &name, gives, Some(idle), told)
 }
 
 // A message comes.

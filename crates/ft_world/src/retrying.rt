@@ -86,10 +86,12 @@ fn time_out(world: &mut World, client: usize) -> Result<ReportLines, NoMemory>
 {
     let alloc = world.alloc();
     let name = world.client_at(client).name().copy(alloc)?;
-    let idle_name = name.copy(alloc)?;
-    let idle = one_line(alloc, ReportLine::Idle { client: idle_name })?;
+    let client_name = name.copy(alloc)?;
+    let idle = ReportLine::Idle {
+        client: client_name,
+    };
     let told = world.fail_at(client)?;
-    does(world, client, &name, None, idle, told)
+    does(world, client, &name, None, Some(idle), told)
 }
 
 /// `timeout C`

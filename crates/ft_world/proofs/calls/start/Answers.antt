@@ -1,4 +1,4 @@
-use Rattle.std.proofs.Common.{◌≡◌, None, sym, subst, ap, ◌∙◌}
+use Rattle.std.proofs.Common.{◌≡◌, [], None, refl, sym, subst, ap, ◌∙◌}
 use Rattle.script_clients.specs.Clients.{Client, taking}
 use Rattle.script_world.specs.Worlds.{CanStart}
 use Rattle.world_turns.specs.Answers.{Does}
@@ -37,7 +37,7 @@ returns c = λ d g calls at there.
     (c.in_ok-key.ensures ∙ ap (λ (x : Client). key_of w x c.args.said) first) in
     subst (λ (e : Effect). Does e c.does.result c.does.new.world calls calls)
     (started_is w c.reference_for.new.world c.start_at.new.self c.args.client d g c.args.op c.args.said (made c.args.op c.args.said c.in_ok-reference.reference c.expiration_of-expiration.result c.is_none.result c.in_ok-key.key)
-    c.in_ok-told.told c.in_ok-name.name c.new.result
+    c.in_ok-told.told c.in_ok-name.name []
     took.1 begins (c.in_ok-told.ensures left stands)
-    (c.in_ok-name.ensures ∙ c.name.ensures ∙ ap (λ (x : Client). x.name) second) c.new.ensures)
+    (c.in_ok-name.ensures ∙ c.name.ensures ∙ ap (λ (x : Client). x.name) second) refl)
     (c.does.ensures calls)
