@@ -7,13 +7,14 @@ use std::fmt;
 use std::marker::Model;
 
 /// The most bytes that need no memory of their own: as many as make a short text as large as a `Vec`.
-pub(crate) const SHORT_LIMIT: usize = 23;
+pub(crate) const SHORT_LIMIT: usize = 16;
 
-/// At most 23 bytes, in the value itself.
+/// At most 16 bytes, in the value itself. Its length is a whole word, so that the bytes lie as words do, and are
+/// moved as such.
 #[derive(Drop)]
 struct Short {
+    len: usize,
     cells: [u8; SHORT_LIMIT],
-    len: u8,
 }
 
 impl Model for Short {
@@ -23,7 +24,7 @@ impl Model for Short {
 
     ghost view = { λ s. take s.len s.cells };
 
-    ghost invariant = { λ s. s.len ≤ 23 };
+    ghost invariant = { λ s. s.len ≤ 16 };
 }
 
 #[derive(Drop)]
@@ -62,8 +63,8 @@ impl Short {
         let mut cells = [0; SHORT_LIMIT];
         cells[..text.len()].copy_from_slice(text);
         Short {
+            len: text.len(),
             cells,
-            len: text.len() as u8,
         }
     }
 
@@ -71,7 +72,7 @@ impl Short {
     fn as_slice(&self) -> &[u8]
         ensures { result.now ≡ self.now }
     {
-        &self.cells[..self.len as usize]
+        &self.cells[..self.len]
     }
 
     #[inline]
@@ -79,8 +80,8 @@ impl Short {
         ensures { result ≡ self.now }
     {
         Short {
-            cells: self.cells,
             len: self.len,
+            cells: self.cells,
         }
     }
 }

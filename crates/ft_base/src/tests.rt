@@ -16,8 +16,8 @@ fn names(rt: HostRuntime) {
         (b"", Err(NameFault::Empty)),
         (b"g", Ok(1)),
         (b"deposit", Ok(7)),
-        (b"abcdefghijklmnopqrstuvw", Ok(23)),
-        (b"abcdefghijklmnopqrstuvwx", Ok(24)),
+        (b"abcdefghijklmnop", Ok(16)),
+        (b"abcdefghijklmnopq", Ok(17)),
         (&limit, Ok(255)),
         (&over, Err(NameFault::Long(256))),
         (&zeros, Err(NameFault::Long(256))),
@@ -50,8 +50,8 @@ fn bytes_of_each_size(rt: HostRuntime) -> Result<(), NoMemory> {
     let rows: [&[u8]; 5] = [
         b"",
         b"\0\0\0\0\0\0\0\x05",
-        b"\0bcdefghijklmnopqrstuvw",
-        b"\0bcdefghijklmnopqrstuvw\0",
+        b"\0bcdefghijklmnop",
+        b"\0bcdefghijklmnop\0",
         &many,
     ];
     for text in &rows {

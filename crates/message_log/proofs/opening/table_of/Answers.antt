@@ -8,6 +8,15 @@ use Rattle.message_log.proofs.ContentLaws.{rises, below_retained}
 use Rattle.message_log.proofs.PictureLaws.{below}
 use Rattle.message_log.proofs.opening.table_of.Goals as goal
 
+pub add-requires : goal.add-requires
+add-requires c =
+    let e = c.in-Some.entry in
+    let table = c.loop-entry.table.entries in
+    let rest = into_iter_items c.next.new.self in
+    let from = c.loop-entry.invariant.1.0 in
+    let r = rises from c.args.end e rest (subst (λ (es : List Retained). are_rising from c.args.end es ≡ true) c.in-Some.ensures.items c.loop-entry.invariant.1.1) in
+    below from e.position table r.low c.loop-entry.invariant.1.2
+
 pub loop-entry-preserved : goal.loop-entry-preserved
 loop-entry-preserved c =
     let e = c.in-Some.entry in
