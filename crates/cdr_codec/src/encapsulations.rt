@@ -9,12 +9,16 @@ use crate::writers::CdrWriter;
 use ft_base::NoMemory;
 use std::alloc::Global;
 
+// Most encapsulations are no longer, and so are written in one piece of memory.
+const ENCAPSULATION_ROOM: usize = 96;
+
 /// A writer that began an encapsulation: the octet of its byte order is written.
 pub fn begin_encapsulation(alloc: Global, order: Order) -> Result<CdrWriter, NoMemory>
     ensures begun { IfOk result (λ writer. writer ≡ begun order) }
     ensures encapsulated { IfOk result IsEncapsulated }
 {
     let mut writer = CdrWriter::new(alloc, order, 0);
+    writer.reserve(ENCAPSULATION_ROOM)?;
     writer.write_octet(order.sign())?;
     Ok(writer)
 }

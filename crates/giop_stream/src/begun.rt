@@ -19,6 +19,10 @@ const BEGUN_LIMIT: usize = 8;
 /// The number of bytes of a fragment before its rest: the header and the request id.
 const FRAGMENT_HEAD: usize = 16;
 
+/// Most messages that come in parts are longer than their first part by no more than this, and so are joined in one
+/// piece of memory.
+const JOIN_ROOM: usize = 64;
+
 const OUT_OF_TURN: StreamFault = StreamFault::Malformed {
     why: Why::Open,
     place: HEAD_LENGTH as u32,
@@ -70,7 +74,8 @@ impl Opened {
         requires small { length part.now ≤ MESSAGE_LIMIT }
         ensures { IfOk result (λ o. o ≡ record { id = id; head = head; payload = drop HEAD_LENGTH part.now; spent = length part.now }) }
     {
-        let payload = Vec::from_slice(alloc, payload_of(part))?;
+        let mut payload = Vec::with_capacity(alloc, part.len() + JOIN_ROOM)?;
+        payload.extend_from_slice(payload_of(part))?;
         Ok(Opened {
             id,
             head,

@@ -8,7 +8,7 @@ ghost use Rattle.ft_base.specs.declared.requests.Par.TheVariants.{I64};
 ghost use Rattle.servant_account.specs.Account.{amount_of, balance_in as balance_said, deposited, ran, told, withdrawn};
 ghost use Rattle.servant_account.specs.Operations.{operation_of, signature_of};
 
-use cdr_codec::{CdrReader, CdrWriter, Order};
+use cdr_codec::{CdrReader, Order};
 use ft_base::{Bytes, Name, NameFault, NoMemory, Outcome, Par, Signature};
 use std::alloc::Global;
 
@@ -40,9 +40,7 @@ fn refusal(alloc: Global, exception: &[u8]) -> Result<Outcome, NoMemory>
 pub fn number_bytes(alloc: Global, number: u64) -> Result<Bytes, NoMemory>
     ensures { IfOk result (λ bytes. bytes ≡ big_bytes 8 number) }
 {
-    let mut writer = CdrWriter::new(alloc, Order::Big, 0);
-    writer.write_u64(number)?;
-    Ok(writer.finish())
+    Bytes::of(alloc, &number.to_be_bytes())
 }
 
 /// The number in eight bytes, the highest first.
