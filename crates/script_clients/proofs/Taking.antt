@@ -1,12 +1,22 @@
 -- A list whose first element that passes is taken out.
-use Rattle.std.proofs.Common.{◌≡◌, ℕ, suc, ◌<◌, Bool, true, false, not, cond, ltb, List, ◌∷◌, ◌++◌, length, get_or, take, drop, Some, None, refl, sym, ap, ◌∙◌}
-use Rattle.std.specs.List.{filter, find, position, position_or_len, remove}
+use Rattle.std.proofs.Common.{◌≡◌, ℕ, suc, ◌<◌, Bool, true, false, not, cond, ltb, List, [], ◌∷◌, ◌++◌, ◌||◌, length, get_or, take, drop, Some, None, refl, sym, ap, ◌∙◌}
+use Rattle.std.specs.List.{filter, find, list_any, position, position_or_len, remove}
 use Rattle.std.proofs.Math.Seq.{split_at}
 use Rattle.std.proofs.lemmas.Bool.{ltb-true, ltb-false}
 use Rattle.std.proofs.lemmas.List.Elements.{filter-append}
 use Rattle.std.proofs.lemmas.List.Folds.{find_at}
 use Rattle.std.proofs.lemmas.List.Sums.{passes_at_first}
 use Rattle.std.proofs.lemmas.Option.{cond_some, slice_get_read, slice_get_past}
+
+-- where none passes all of them stay
+module _ {X : Type 0} (p : X → Bool) where
+  kept : (b c : Bool) (x : X) (ys zs : List X) → (b || c) ≡ false → (c ≡ false → ys ≡ zs) → x ∷ ys ≡ cond (not b) (x ∷ zs) zs
+  kept true c x ys zs e h = absurd cc
+  kept false c x ys zs e h = ap (λ (l : List X). x ∷ l) (h e)
+
+  pub all_stay : (xs : List X) → list_any p xs ≡ false → xs ≡ filter (λ y. not (p y)) xs
+  all_stay [] e = refl
+  all_stay (x ∷ xs) e = kept (p x) (list_any p xs) x xs (filter (λ y. not (p y)) xs) e (all_stay xs)
 
 module _ {X : Type 0} (p : X → Bool) (xs : List X) where
   abbrev place : ℕ

@@ -1,6 +1,6 @@
 //! The references that a client goes by.
 ghost use Rattle.std.specs.Prelude.{◌≡◌, ◌+◌, ◌<◌, ◌≤◌, ◌++◌, ◌∷◌, [], length, not, position, vec_len, vec_capacity, IfSome};
-ghost use Rattle.std.specs.List.{filter, find};
+ghost use Rattle.std.specs.List.{filter, find, list_any};
 ghost use Rattle.std.specs.Option.{option_to_list};
 ghost use Rattle.iogr_reference.specs.declared.references.GroupRef.{GroupRef as AReference};
 ghost use Rattle.script_clients.specs.Clients.{is_of};
@@ -25,6 +25,12 @@ fn is_of(group: GroupId, reference: &GroupRef) -> bool
     ensures { result ≡ is_of group reference.now }
 {
     reference.group.0 == group.0
+}
+
+fn has_any(references: &[GroupRef], group: GroupId) -> bool
+    ensures { result ≡ list_any (λ (r : AReference). is_of group r) references.now }
+{
+    references.iter().any(|reference| is_of(group, reference))
 }
 
 fn place_of(references: &[GroupRef], group: GroupId) -> Option<usize>
@@ -54,7 +60,10 @@ fn drop_all(references: &mut Vec<GroupRef>, group: GroupId)
     ensures len { vec_len references.new ≤ vec_len references.old }
     ensures capacity { vec_capacity references.new ≡ vec_capacity references.old }
 {
-    references.retain(|reference| !is_of(group, reference));
+    // mostly there is none, and then nothing is written
+    if has_any(references.as_slice(), group) {
+        references.retain(|reference| !is_of(group, reference));
+    }
 }
 
 /// Takes out what is of a group, and gives the first of it.
