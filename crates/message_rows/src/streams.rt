@@ -27,13 +27,13 @@ const Z2: &[u8] = b"GIOP\x01\x02\0\x07\0\0\0\x0d\0\0\0\x02\0\0\0\0\0\0\0\x01k";
 const CANCEL: &[u8] = b"GIOP\x01\x02\0\x02\0\0\0\x04\0\0\0\x09";
 
 // A Reply with id 1 and a body, and a LocateReply with id 2, each in two parts.
-const R1: &[u8] = b"GIOP\x01\x02\x02\x01\0\0\0\x0c\0\0\0\x01\0\0\0\0\0\0\0\0";
+const REPLY_BEGUN: &[u8] = b"GIOP\x01\x02\x02\x01\0\0\0\x0c\0\0\0\x01\0\0\0\0\0\0\0\0";
 
-const R2: &[u8] = b"GIOP\x01\x02\0\x07\0\0\0\x0c\0\0\0\x01\0\0\0\0\0\0\0\x05";
+const REPLY_REST: &[u8] = b"GIOP\x01\x02\0\x07\0\0\0\x0c\0\0\0\x01\0\0\0\0\0\0\0\x05";
 
-const L1: &[u8] = b"GIOP\x01\x02\x02\x04\0\0\0\x0c\0\0\0\x02\0\0\0\x01\0\0\0\0";
+const LOCATED_BEGUN: &[u8] = b"GIOP\x01\x02\x02\x04\0\0\0\x0c\0\0\0\x02\0\0\0\x01\0\0\0\0";
 
-const L2: &[u8] = b"GIOP\x01\x02\0\x07\0\0\0\x04\0\0\0\x02";
+const LOCATED_REST: &[u8] = b"GIOP\x01\x02\0\x07\0\0\0\x04\0\0\0\x02";
 
 // A Reply of status 5, a CloseConnection, and a MessageError.
 const ADDRESSING: &[u8] = b"GIOP\x01\x02\0\x01\0\0\0\x0c\0\0\0\x01\0\0\0\x05\0\0\0\0";
@@ -199,8 +199,13 @@ fn links_of_small_messages(rt: HostRuntime) -> Result<(), NoMemory> {
             malformed(Why::Flags, 6),
             0,
         ),
-        (&[L1, R1, L2, R2], &[2, 1], None, 0),
-        (&[R1, L1, CANCEL], &[9], None, 48),
+        (
+            &[LOCATED_BEGUN, REPLY_BEGUN, LOCATED_REST, REPLY_REST],
+            &[2, 1],
+            None,
+            0,
+        ),
+        (&[REPLY_BEGUN, LOCATED_BEGUN, CANCEL], &[9], None, 48),
         // the flags that say nothing
         (
             &[b"GIOP\x01\x02\xfc\x02\0\0\0\x04\0\0\0\x09"],
@@ -337,8 +342,8 @@ fn sessions_of_small_links(rt: HostRuntime) -> Result<(), NoMemory> {
         (&[CANCEL, CLOSE, CANCEL, b"GIOQ"], &[9], StreamEnd::Closed),
         (&[A1, ERROR, Z1], &[], StreamEnd::Closed),
         (&[CANCEL, ADDRESSING, CANCEL], &[9], reply),
-        (&[R1, CANCEL, R2, CLOSE], &[9], reply),
-        (&[L1, L2], &[], reply),
+        (&[REPLY_BEGUN, CANCEL, REPLY_REST, CLOSE], &[9], reply),
+        (&[LOCATED_BEGUN, LOCATED_REST], &[], reply),
         (&[A1, CANCEL, b"GIOP\x01"], &[9], cut),
         (&[CANCEL, b"XIOP\x01\x02\0\x02\0\0\0\x04"], &[9], magic),
     ];
