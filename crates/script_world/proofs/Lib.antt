@@ -2,3 +2,4 @@ pub mod Places
 pub mod SettingsLemmas
 pub mod SoundLemmas
 pub mod Loops
+pub mod CountLemmas

@@ -3,3 +3,4 @@ pub mod Settings
 pub mod Standing
 pub mod Sound
 pub mod Worlds
+pub mod Counting

@@ -16,6 +16,7 @@
 #![tactic(auto)]
 
 mod faults;
+mod groups;
 mod hosts;
 mod limits;
 mod messages;

@@ -53,11 +53,11 @@ impl World {
     {
         let alloc = self.alloc();
         let type_id = type_name(alloc, group.kind())?;
-        self.groups.reserve(1)?;
+        self.groups.reserve_one()?;
         match self.settings.adopt(alloc, group.id(), &type_id, criteria) {
             Err(_) => Err(NoMemory),
             Ok(()) => {
-                self.groups.push(group).unwrap();
+                self.groups.push(group);
                 Ok(())
             }
         }

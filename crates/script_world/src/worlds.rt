@@ -1,17 +1,18 @@
-ghost use Rattle.std.specs.Prelude.{◌≡◌, ℕ, ◌+◌, ◌*◌, ◌<◌, ◌≤◌, ◌^◌, [], ◌∷◌, ◌++◌, None, Some, false, true, length, map, nat_lt, slice_get, slice_set, is_some, IfOk, IfSome, MatchOption, OnErr, OnOk, option_copied};
+ghost use Rattle.std.specs.Prelude.{◌≡◌, ℕ, ◌+◌, ◌*◌, ◌<◌, ◌≤◌, ◌^◌, [], ◌∷◌, ◌++◌, None, Some, false, true, length, map, nat_lt, slice_get, slice_set, is_some, IfOk, IfSome, MatchOption, OnOk, option_copied};
 ghost use Rattle.std.specs.List.{AllByRecursion, list_any};
 ghost use Rattle.std.specs.Str.{bytes_eq};
 ghost use Rattle.ft_base.specs.declared.limits.TheConstants.{HOST_LIMIT};
 ghost use Rattle.group_model.specs.Sending.{sent_by};
 ghost use Rattle.group_references.specs.Ports.{all_ports};
 ghost use Rattle.script_clients.specs.Clients.{Client, binding, failing, hearing, taking};
-ghost use Rattle.script_groups.specs.Acting.{AreKept, IsKept, IsSoundGroup, MayCome, poisoned};
-ghost use Rattle.script_groups.specs.Groups.{ScriptGroup as Group, acted, all_acted, entries_of, found, group_named, group_numbered};
+ghost use Rattle.script_groups.specs.Acting.{IsSoundGroup, MayCome};
+ghost use Rattle.script_groups.specs.Groups.{ScriptGroup as Group, entries_of, found, group_named, group_numbered};
 ghost use Rattle.script_world.specs.declared.hosts.HostState.{HostState as State};
 ghost use Rattle.script_world.specs.Sound.{IsKeptWorld, IsOnItsWay};
 ghost use Rattle.script_world.specs.World.{World, carried, client_named, empty, fresh_host, host_clock, is_named, is_there, is_up, message_numbered, passed, ticked, with_client, with_event, with_host, with_hosts, with_messages, with_one_client};
-ghost use Rattle.script_world.specs.Worlds.{AreOrHave, CanStart, EventAt, IsMade, IsPlace, begin, power_event};
+ghost use Rattle.script_world.specs.Worlds.{CanStart, EventAt, IsMade, IsPlace, begin, power_event};
 
+use crate::groups::Groups;
 use crate::hosts::HostState;
 use crate::limits::GROUP_LIMIT;
 use crate::messages::Message;
@@ -46,7 +47,7 @@ pub struct Begun {
 pub struct World {
     clock: u64,
     hosts: Vec<HostState>,
-    pub(crate) groups: Vec<ScriptGroup>,
+    pub(crate) groups: Groups,
     clients: Vec<ScriptClient>,
     messages: Vec<Message>,
     pub(crate) settings: PropertyManager,
@@ -125,19 +126,6 @@ fn is_client(clients: &[ScriptClient], name: &Name) -> bool
     clients.iter().any(|client| client.name().is(name))
 }
 
-// How many requests these groups have accepted.
-fn entries_of(groups: &[ScriptGroup]) -> u64
-    requires few { length groups.now ≤ 256 }
-    requires kept { AreKept groups.now }
-    ensures { result ≡ entries_of groups.now }
-{
-    let mut total = 0u64;
-    for group in groups {
-        total += u64::from(group.entries());
-    }
-    total
-}
-
 fn ticked(host: HostState, ticks: u32) -> HostState
     requires { host.clock ≤ 2 ^ 63 }
     ensures { result ≡ ticked ticks host }
@@ -172,61 +160,6 @@ fn set_host(hosts: &mut Vec<HostState>, host: HostNo, state: HostState)
     }
 }
 
-fn power_event(up: bool, host: HostNo) -> Event
-    ensures { result ≡ power_event up host }
-{
-    if up {
-        Event::Restart(host)
-    } else {
-        Event::Crash(host)
-    }
-}
-
-// A host that stops or starts again is so for one group; no servant is called.
-fn power_one<L: Ledger>(
-    alloc: Global,
-    group: &mut ScriptGroup,
-    host: HostNo,
-    up: bool,
-    steps: &mut Steps<L>,
-) -> Result<(), NoMemory>
-    requires kept { IsKept group.old }
-    requires host { host.0 < HOST_LIMIT }
-    ensures acted { OnOk result (group.new ≡ acted group.old (power_event up host)) }
-    ensures short { OnErr result (group.new ≡ poisoned group.old) }
-    ensures steps { OnOk result (steps.new ≡ steps.old) }
-    ensures within { steps.new ≤ steps.old }
-{
-    match group.act(alloc, power_event(up, host), steps) {
-        GroupAnswer::NoMemory => Err(NoMemory),
-        _ => Ok(()),
-    }
-}
-
-// The same event at each group: what a host that stops or starts again is to all of them.
-fn power<L: Ledger>(
-    alloc: Global,
-    groups: &mut Vec<ScriptGroup>,
-    host: HostNo,
-    up: bool,
-    steps: &mut Steps<L>,
-) -> Result<(), NoMemory>
-    requires kept { AreKept groups.old.items }
-    requires host { host.0 < HOST_LIMIT }
-    ensures acted { OnOk result (groups.new.items ≡ all_acted (power_event up host) groups.old.items) }
-    ensures partly { OnErr result (AreOrHave groups.old.items (power_event up host) groups.new.items) }
-    ensures steps { OnOk result (steps.new ≡ steps.old) }
-    ensures within { steps.new ≤ steps.old }
-{
-    for group in groups.iter_mut() {
-        match power_one(alloc, group, host, up, steps) {
-            Ok(()) => {}
-            Err(NoMemory) => return Err(NoMemory),
-        }
-    }
-    Ok(())
-}
-
 impl World {
     /// A world in which nothing was made yet.
     pub fn new(alloc: Global) -> Result<World, NoMemory>
@@ -236,7 +169,7 @@ impl World {
         Ok(World {
             clock: 0,
             hosts: Vec::new(alloc),
-            groups: Vec::new(alloc),
+            groups: Groups::new(alloc),
             clients: Vec::new(alloc),
             messages: Vec::new(alloc),
             settings: PropertyManager::new(alloc),
@@ -370,7 +303,7 @@ impl World {
         requires { place < length self.now.groups }
         ensures { slice_get self.now.groups place ≡ Some result.now }
     {
-        &self.groups[place]
+        self.groups.at(place)
     }
 
     /// The client at this place.
@@ -451,8 +384,7 @@ impl World {
     {
         let alloc = *self.messages.allocator();
         groups_go_on();
-        let group = &mut self.groups[place];
-        group.act(alloc, event, steps)
+        self.groups.act_at(alloc, place, event, steps)
     }
 
     /// A host stops, or starts again with a clock at 0; each group hears of it.
@@ -470,7 +402,7 @@ impl World {
     {
         let alloc = *self.messages.allocator();
         groups_go_on();
-        match power(alloc, &mut self.groups, host, up, steps) {
+        match self.groups.power(alloc, host, up, steps) {
             Ok(()) => {
                 set_host(&mut self.hosts, host, HostState { up, clock: 0 });
                 Ok(())
@@ -562,6 +494,6 @@ impl World {
         requires { IsKeptWorld self.now }
         ensures { result ≡ entries_of self.now.groups }
     {
-        entries_of(self.groups.as_slice())
+        self.groups.entries()
     }
 }

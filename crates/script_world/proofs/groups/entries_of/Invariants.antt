@@ -1,6 +1,6 @@
 use Rattle.std.proofs.Common.{◌≡◌, ◌*◌, ◌≤◌, take}
 use Rattle.script_groups.specs.Groups.{entries_of}
-use Rattle.script_world.proofs.worlds.entries_of.Given as goal
+use Rattle.script_world.proofs.groups.entries_of.Given as goal
 
 -- the entries of the groups so far
 abbrev pub invariant-loop-group : goal.invariant-loop-group

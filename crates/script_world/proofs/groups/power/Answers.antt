@@ -4,7 +4,7 @@ use Rattle.script_groups.specs.Acting.{poisoned}
 use Rattle.script_groups.specs.Groups.{ScriptGroup, acted}
 use Rattle.script_world.specs.Worlds.{AreOrHave, power_event}
 use Rattle.script_world.proofs.Loops.{at_hand, one_more, partly_at, same_count, written_back}
-use Rattle.script_world.proofs.worlds.power.Goals as goal
+use Rattle.script_world.proofs.groups.power.Goals as goal
 
 pub returns-in-Err-clause-partly : goal.returns-in-Err-clause-partly
 returns-in-Err-clause-partly g c =
