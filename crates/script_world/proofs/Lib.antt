@@ -3,3 +3,4 @@ pub mod SettingsLemmas
 pub mod SoundLemmas
 pub mod Loops
 pub mod CountLemmas
+pub mod ClientLemmas

@@ -4,3 +4,4 @@ pub mod Standing
 pub mod Sound
 pub mod Worlds
 pub mod Counting
+pub mod Names

@@ -15,6 +15,7 @@
 //! ```
 #![tactic(auto)]
 
+mod clients;
 mod faults;
 mod groups;
 mod hosts;

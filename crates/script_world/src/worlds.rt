@@ -6,12 +6,13 @@ ghost use Rattle.group_model.specs.Sending.{sent_by};
 ghost use Rattle.group_references.specs.Ports.{all_ports};
 ghost use Rattle.script_clients.specs.Clients.{Client, binding, failing, hearing, taking};
 ghost use Rattle.script_groups.specs.Acting.{IsSoundGroup, MayCome};
-ghost use Rattle.script_groups.specs.Groups.{ScriptGroup as Group, entries_of, found, group_named, group_numbered};
+ghost use Rattle.script_groups.specs.Groups.{ScriptGroup as Group, entries_of, group_named, group_numbered};
 ghost use Rattle.script_world.specs.declared.hosts.HostState.{HostState as State};
 ghost use Rattle.script_world.specs.Sound.{IsKeptWorld, IsOnItsWay};
 ghost use Rattle.script_world.specs.World.{World, carried, client_named, empty, fresh_host, host_clock, is_named, is_there, is_up, message_numbered, passed, ticked, with_client, with_event, with_host, with_hosts, with_messages, with_one_client};
 ghost use Rattle.script_world.specs.Worlds.{CanStart, EventAt, IsMade, IsPlace, begin, power_event};
 
+use crate::clients::Clients;
 use crate::groups::Groups;
 use crate::hosts::HostState;
 use crate::limits::GROUP_LIMIT;
@@ -48,7 +49,7 @@ pub struct World {
     clock: u64,
     hosts: Vec<HostState>,
     pub(crate) groups: Groups,
-    clients: Vec<ScriptClient>,
+    clients: Clients,
     messages: Vec<Message>,
     pub(crate) settings: PropertyManager,
     pub(crate) monitor: ScriptMonitor,
@@ -102,28 +103,10 @@ fn group_place(groups: &[ScriptGroup], name: &Name) -> Option<usize>
     None
 }
 
-// The place of the client with this name.
-fn client_place(clients: &[ScriptClient], name: &Name) -> Option<usize>
-    ensures { IsPlace (found (λ (c : Client). bytes_eq c.name name.now) 0 clients.now) clients.now result }
-{
-    for (place, client) in clients.iter().enumerate() {
-        if client.name().is(name) {
-            return Some(place);
-        }
-    }
-    None
-}
-
 fn is_group(groups: &[ScriptGroup], name: &Name) -> bool
     ensures { result ≡ list_any (λ (g : Group). bytes_eq g.name name.now) groups.now }
 {
     groups.iter().any(|group| group.name().is(name))
-}
-
-fn is_client(clients: &[ScriptClient], name: &Name) -> bool
-    ensures { result ≡ list_any (λ (c : Client). bytes_eq c.name name.now) clients.now }
-{
-    clients.iter().any(|client| client.name().is(name))
 }
 
 fn ticked(host: HostState, ticks: u32) -> HostState
@@ -170,7 +153,7 @@ impl World {
             clock: 0,
             hosts: Vec::new(alloc),
             groups: Groups::new(alloc),
-            clients: Vec::new(alloc),
+            clients: Clients::new(alloc),
             messages: Vec::new(alloc),
             settings: PropertyManager::new(alloc),
             monitor: ScriptMonitor::new(alloc),
@@ -240,7 +223,7 @@ impl World {
         ensures { result ≡ is_named self.now name.now }
     {
         is_group(self.groups.as_slice(), name)
-            || is_client(self.clients.as_slice(), name)
+            || self.clients.has(name)
             || self.subscribers.is_named(name)
     }
 
@@ -268,7 +251,7 @@ impl World {
     pub fn client_place(&self, name: &Name) -> Option<usize>
         ensures { IsPlace (client_named self.now name.now) self.now.clients result }
     {
-        client_place(self.clients.as_slice(), name)
+        self.clients.place(name)
     }
 
     pub fn group_count(&self) -> usize
@@ -311,7 +294,7 @@ impl World {
         requires { place < length self.now.clients }
         ensures { slice_get self.now.clients place ≡ Some result.now }
     {
-        &self.clients[place]
+        self.clients.at(place)
     }
 
     /// The client at this place, if there is one.
@@ -346,8 +329,8 @@ impl World {
     pub fn add_client(&mut self, client: ScriptClient) -> Result<(), NoMemory>
         ensures { OnOk result (self.new ≡ with_one_client self.old client) }
     {
-        self.clients.push(client)?;
-        Ok(())
+        let alloc = *self.messages.allocator();
+        self.clients.add(alloc, client)
     }
 
     /// Sends a message.
@@ -416,7 +399,7 @@ impl World {
         requires { place < length self.now.clients }
         ensures { (c : Client) → slice_get self.now.clients place ≡ Some c → result ≡ is_some c.call }
     {
-        self.clients[place].is_open()
+        self.clients.at(place).is_open()
     }
 
     /// The client at this place gives away its reference of a group, if it has one.
@@ -430,8 +413,7 @@ impl World {
         ensures { (c : Client) → slice_get self.old.clients place ≡ Some c →
             IfOk result (λ reference. (reference ≡ (taking c group).reference) × (self.new ≡ with_client self.old place (taking c group).client)) }
     {
-        let client = &mut self.clients[place];
-        client.take_reference(group)
+        self.clients.take_reference(place, group)
     }
 
     /// The client at this place begins an invocation.
@@ -442,15 +424,7 @@ impl World {
             IfOk result (λ told. (told ≡ (begin c begun).told) × (self.new ≡ with_client self.old place (begin c begun).client)) }
     {
         let alloc = *self.messages.allocator();
-        let Begun {
-            reference,
-            expiration,
-            numbers,
-            versioned,
-            request,
-        } = begun;
-        let client = &mut self.clients[place];
-        client.start(alloc, reference, expiration, numbers, versioned, request)
+        self.clients.start(alloc, place, begun)
     }
 
     /// A reply comes to the client at this place, now.
@@ -462,8 +436,7 @@ impl World {
     {
         let alloc = *self.messages.allocator();
         let now = Tick(self.clock);
-        let client = &mut self.clients[place];
-        client.hear(alloc, id, heard, now)
+        self.clients.hear(alloc, place, id, heard, now)
     }
 
     /// The client at this place goes by this reference for its group from now on, between two invocations.
@@ -472,8 +445,7 @@ impl World {
         requires idle { (c : Client) → slice_get self.old.clients place ≡ Some c → c.call ≡ None }
         ensures { (c : Client) → slice_get self.old.clients place ≡ Some c → OnOk result (self.new ≡ with_client self.old place (binding c reference)) }
     {
-        let client = &mut self.clients[place];
-        client.bind(reference)
+        self.clients.bind(place, reference)
     }
 
     /// Now it is known that the last attempt of the client at this place gets no reply.
@@ -485,8 +457,7 @@ impl World {
     {
         let alloc = *self.messages.allocator();
         let moment = Tick(self.clock);
-        let client = &mut self.clients[place];
-        client.fault(alloc, moment)
+        self.clients.fault(alloc, place, moment)
     }
 
     /// How many requests all groups have accepted.

@@ -1,0 +1,24 @@
+use Rattle.std.proofs.Common.{length, refl, ap, sym, subst, ◌<◌, List}
+use Rattle.std.proofs.lemmas.Option.{slice_get_read}
+use Rattle.script_clients.specs.Clients.{Client}
+use Rattle.script_world.specs.Worlds.{begin}
+use Rattle.script_world.proofs.ClientLemmas.{places_stay, turned_at}
+use Rattle.script_world.proofs.clients.Clients.start.Goals as goal
+
+pub invariant_of-self : goal.invariant_of-self
+invariant_of-self c =
+    let items = c.self.inside.items.items in
+    let client = c.index_mut-client.result.now in
+    let inside = subst (λ (cs : List Client). c.args.place < length cs) (sym c.self.view_is) c.requires.within in
+    let there = slice_get_read items (length items) c.args.place client refl inside c.index_mut-client.ensures.value in
+    places_stay c.self.inside.places items c.args.place client c.start.new.self c.self.invariant there
+    (ap (λ (x : Client). x.name) c.start.ensures.client)
+
+pub returns : goal.returns
+returns c =
+    let items = c.self.inside.items.items in
+    let client = c.index_mut-client.result.now in
+    let inside = subst (λ (cs : List Client). c.args.place < length cs) (sym c.self.view_is) c.requires.within in
+    let there = slice_get_read items (length items) c.args.place client refl inside c.index_mut-client.ensures.value in
+    turned_at items c.args.self.now c.self.view_is c.args.place client c.start.new.self there
+    (λ x. begin x c.args.begun) c.start.result c.start.ensures.told c.start.ensures.client
