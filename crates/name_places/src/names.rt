@@ -75,8 +75,8 @@ impl NamePlaces {
         place_of(&self.rows, name.bytes())
     }
 
-    /// Makes room for one more name, so that whoever changes other things with it can do so where memory was
-    /// wanted for nothing.
+    /// Makes room for one more name. Only this may want memory, so whoever changes other things too can ask for it
+    /// before any of them.
     pub fn reserve(&mut self, alloc: Global, name: &Name) -> Result<(), NoMemory>
         ensures ready { OnOk result (self.new ≡ ready_for self.old name.now) }
         ensures left { OnErr result (self.new ≡ self.old) }

@@ -12,14 +12,12 @@ use Rattle.script_clients.specs.declared.answers.Told.{Told}
 use Rattle.name_places.specs.Places.{Places, ArePlaces, first_place}
 use Rattle.script_world.specs.Names.{names_of}
 use Rattle.script_world.specs.World.{World, with_client}
-
-same_client : (x y : Client) → Some x ≡ Some y → x ≡ y
-same_client x y e = cc
+use Rattle.script_world.proofs.Places.{same_some}
 
 names_stay : (cs : List Client) (i : ℕ) (c later : Client) → slice_get cs i ≡ Some c → later.name ≡ c.name → names_of (slice_set cs i later) ≡ names_of cs
 names_stay [] i c later at same = refl
 names_stay (d ∷ cs) zero c later at same =
-    ap (λ (n : List ℕ). n ∷ names_of cs) (same ∙ ap (λ (x : Client). x.name) (sym (same_client d c at)))
+    ap (λ (n : List ℕ). n ∷ names_of cs) (same ∙ ap (λ (x : Client). x.name) (sym (same_some d c at)))
 names_stay (d ∷ cs) (suc i) c later at same = ap (λ (ns : List (List ℕ)). d.name ∷ ns) (names_stay cs i c later at same)
 
 -- places stay those of the clients where one changes and keeps its name
@@ -52,7 +50,7 @@ bound_keeps reference c later (Err e) bound kept = ap (λ (x : Client). x.name) 
 
 module _ (items now : List Client) (same : items ≡ now) (place : ℕ) (x later : Client) (at : slice_get items place ≡ Some x) where
   here : (s : Client) → slice_get now place ≡ Some s → x ≡ s
-  here s there = same_client x s (sym at ∙ ap (λ (cs : List Client). slice_get cs place) same ∙ there)
+  here s there = same_some x s (sym at ∙ ap (λ (cs : List Client). slice_get cs place) same ∙ there)
 
   set : (f : Client → Client) (s : Client) → slice_get now place ≡ Some s → later ≡ f x → slice_set items place later ≡ slice_set now place (f s)
   set f s there is = ap (λ (cs : List Client). slice_set cs place later) same ∙ ap (λ (c : Client). slice_set now place c) (is ∙ ap f (here s there))
