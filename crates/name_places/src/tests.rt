@@ -40,8 +40,7 @@ fn finds(rt: HostRuntime) -> Result<(), NoMemory> {
     Ok(())
 }
 
-/// Where memory is refused, the names stand where they stood, and room can be made again. It says the same
-/// whichever allocation fails.
+/// Where memory for bob is refused, the names stand where they stood, and room can be made again.
 #[test]
 fn stays(rt: HostRuntime) -> Result<(), NoMemory> {
     let alloc = rt.alloc();
