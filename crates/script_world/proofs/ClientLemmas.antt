@@ -1,5 +1,5 @@
 -- Clients that change one at a place, and keep their names.
-use Rattle.std.proofs.Common.{◌≡◌, ℕ, zero, suc, List, [], ◌∷◌, Option, Some, None, Result, Ok, Err, refl, sym, ap, ◌∙◌}
+use Rattle.std.proofs.Common.{◌≡◌, ℕ, List, Option, Some, None, Result, Ok, Err, refl, sym, ap, ◌∙◌}
 use Rattle.std.specs.Prelude.{IfOk, OnErr, OnOk, slice_get, slice_set}
 use Rattle.ft_base.specs.declared.numbers.GroupId.{GroupId}
 use Rattle.ft_base.specs.declared.numbers.Tick.{Tick}
@@ -9,21 +9,8 @@ use Rattle.iogr_reference.specs.declared.references.GroupRef.{GroupRef}
 use Rattle.script_clients.specs.Clients.{Client, Turn, going_on, binding, failing, hearing, taking}
 use Rattle.script_clients.specs.declared.answers.Call.{Call}
 use Rattle.script_clients.specs.declared.answers.Told.{Told}
-use Rattle.name_places.specs.Places.{Places, ArePlaces, first_place}
-use Rattle.script_world.specs.Names.{names_of}
 use Rattle.script_world.specs.World.{World, with_client}
 use Rattle.script_world.proofs.Places.{same_some}
-
-names_stay : (cs : List Client) (i : ℕ) (c later : Client) → slice_get cs i ≡ Some c → later.name ≡ c.name → names_of (slice_set cs i later) ≡ names_of cs
-names_stay [] i c later at same = refl
-names_stay (d ∷ cs) zero c later at same =
-    ap (λ (n : List ℕ). n ∷ names_of cs) (same ∙ ap (λ (x : Client). x.name) (sym (same_some d c at)))
-names_stay (d ∷ cs) (suc i) c later at same = ap (λ (ns : List (List ℕ)). d.name ∷ ns) (names_stay cs i c later at same)
-
--- places stay those of the clients where one changes and keeps its name
-pub places_stay : (p : Places) (cs : List Client) (i : ℕ) (c later : Client) → ArePlaces p (names_of cs) → slice_get cs i ≡ Some c → later.name ≡ c.name →
-    ArePlaces p (names_of (slice_set cs i later))
-places_stay p cs i c later are at same = λ name. are name ∙ ap (first_place name) (sym (names_stay cs i c later at same))
 
 -- ---- each call keeps the name
 

@@ -4,3 +4,4 @@ pub mod SoundLemmas
 pub mod Loops
 pub mod CountLemmas
 pub mod ClientLemmas
+pub mod NameLemmas

@@ -1,36 +1,11 @@
 -- Places by name and by number.
-use Rattle.std.proofs.Common.{◌≡◌, ℕ, zero, suc, ◌+◌, ◌-◌, ◌<◌, ◌≤◌, arith, Bool, true, false, cond, Option, None, List, [], ◌∷◌, drop, length, get_or, Some, refl, sym, ap, subst, ◌∙◌, add-one}
-use Rattle.std.proofs.Math.Seq.{drop-cons}
-use Rattle.std.proofs.lemmas.Option.{slice_get_read}
+use Rattle.std.proofs.Common.{◌≡◌, ℕ, zero, suc, ◌+◌, ◌-◌, ◌<◌, ◌≤◌, arith, Bool, true, false, cond, Option, None, List, [], ◌∷◌, length, Some, refl, sym, ap, subst, ◌∙◌, add-one}
 use Rattle.std.specs.Prelude.{◌==◌, ◌||◌, is_some, map, option_map, slice_get}
 use Rattle.std.specs.List.{list_any, position_from}
 use Rattle.std.specs.Str.{bytes_eq}
 use Rattle.std.proofs.lemmas.Bool.{ne_eqb}
 use Rattle.script_groups.specs.Groups.{ScriptGroup, found, group_numbered, placed}
 use Rattle.script_world.specs.Worlds.{IsPlace}
-
--- the element at hand, and those behind it
-pub found_at : {A : Type 0} (test : A → Bool) (xs : List A) (i : ℕ) (x : A) → i < length xs → x ≡ get_or xs i x →
-    found test i (drop i xs) ≡ cond (test x) (Some (placed i x)) (found test (i + 1) (drop (i + 1) xs))
-found_at {A = A} test xs i x h at =
-    let cons : drop i xs ≡ x ∷ drop (i + 1) xs = drop-cons xs i x h ∙ ap (λ (y : A). y ∷ drop (suc i) xs) (sym at) ∙ ap (λ (n : ℕ). x ∷ drop n xs) (sym (add-one i)) in
-    ap (found test i) cons ∙ ap (λ (n : ℕ). cond (test x) (Some (placed i x)) (found test n (drop (i + 1) xs))) (sym (add-one i))
-
--- the first that passes is found
-pub found_here : {A : Type 0} (test : A → Bool) (xs : List A) (i : ℕ) (x : A) → i < length xs → x ≡ get_or xs i x →
-    found test i (drop i xs) ≡ found test 0 xs → test x ≡ true → IsPlace (found test 0 xs) xs (Some i)
-found_here {A = A} test xs i x h at left passes = (
-  x,
-  sym left ∙ found_at test xs i x h at ∙ ap (λ (b : Bool). cond b (Some (placed i x)) (found test (i + 1) (drop (i + 1) xs))) passes,
-  slice_get_read xs (length xs) i x refl h at,
-)
-
--- what doesn't pass is left behind
-pub found_behind : {A : Type 0} (test : A → Bool) (xs : List A) (i : ℕ) (x : A) → i < length xs → x ≡ get_or xs i x →
-    found test i (drop i xs) ≡ found test 0 xs → test x ≡ false → found test (i + 1) (drop (i + 1) xs) ≡ found test 0 xs
-found_behind test xs i x h at left fails =
-    sym (ap (λ (b : Bool). cond b (Some (placed i x)) (found test (i + 1) (drop (i + 1) xs))) fails)
-    ∙ sym (found_at test xs i x h at) ∙ left
 
 -- the first place of a name among the names of what stands in a list, from a place on
 placed_from : {A : Type 0} (name_of : A → List ℕ) (name : List ℕ) (all : List A) (i : ℕ) (xs : List A) → ((k : ℕ) → slice_get all (i + k) ≡ slice_get xs k) →

@@ -1,22 +1,24 @@
-//! The groups of a world, and how many requests they have accepted together.
+//! The groups of a world, found by their names in a map, and how many requests they have accepted together.
 ghost use Rattle.std.specs.Prelude.{◌≡◌, ◌+◌, ◌*◌, ◌<◌, ◌≤◌, ◌++◌, ◌∷◌, [], Some, length, slice_get, IfSome, OnErr, OnOk};
-ghost use Rattle.std.specs.List.{AllByRecursion};
+ghost use Rattle.std.specs.List.{AllByRecursion, list_any};
+ghost use Rattle.std.specs.Str.{bytes_eq};
 ghost use Rattle.ft_base.specs.declared.limits.TheConstants.{HOST_LIMIT, JOURNAL_LIMIT};
 ghost use Rattle.script_groups.specs.Acting.{AreKept, IsKept, IsSoundGroup, MayCome, poisoned};
-ghost use Rattle.script_groups.specs.Groups.{ScriptGroup as Group, acted, all_acted, common_of, entries_of};
+ghost use Rattle.script_groups.specs.Groups.{ScriptGroup as Group, acted, all_acted, common_of, entries_of, group_named};
 ghost use Rattle.script_world.specs.Counting.{IsActedAt};
-ghost use Rattle.script_world.specs.Worlds.{AreOrHave, IsMade, power_event};
+ghost use Rattle.script_world.specs.Worlds.{AreOrHave, IsMade, IsPlace, power_event};
 
 use crate::limits::GROUP_LIMIT;
-use ft_base::{HOST_LIMIT, HostNo, NoMemory, Steps};
+use ft_base::{HOST_LIMIT, HostNo, Name, NoMemory, Steps};
 use group_model::{Event, GroupAnswer};
+use name_places::NamePlaces;
 use script_groups::ScriptGroup;
 use std::alloc::Global;
 use std::marker::Model;
 use std::sync::ledger::Ledger;
 
-/// The groups of a world, in the order in which they were made, and how many requests they have accepted
-/// together, where that is counted.
+/// The groups of a world, in the order in which they were made, with a map of their names, and how many requests
+/// they have accepted together, where that is counted.
 ///
 /// That number is asked for after each line of a script. An event changes what one group has accepted, so the
 /// count goes on by that group alone, and no other is looked at.
@@ -24,18 +26,21 @@ use std::sync::ledger::Ledger;
 pub(crate) struct Groups {
     items: Vec<ScriptGroup>,
     entries: Option<u64>,
+    places: NamePlaces,
 }
 
 impl Model for Groups {
     ghost use Rattle.std.specs.Prelude.{◌≡◌, IfSome, vec_capacity};
+    ghost use Rattle.name_places.specs.Places.{ArePlaces};
     ghost use Rattle.script_groups.specs.Groups.{entries_of};
     ghost use Rattle.script_world.specs.Counting.{GroupList};
+    ghost use Rattle.script_world.specs.Names.{group_names};
 
     ghost Value = { GroupList };
 
-    ghost view = { λ a. record { items = a.items.items; room = vec_capacity a.items } };
+    ghost view = { λ a. record { items = a.items.items; room = vec_capacity a.items; next = a.places.next } };
 
-    ghost invariant = { λ a. IfSome a.entries (λ n. n ≡ entries_of a.items.items) };
+    ghost invariant = { λ a. IfSome a.entries (λ n. n ≡ entries_of a.items.items) × ArePlaces a.places (group_names a.items.items) };
 }
 
 // How many requests these groups have accepted.
@@ -127,6 +132,7 @@ impl Groups {
         Groups {
             items: Vec::new(alloc),
             entries: Some(0),
+            places: NamePlaces::new(alloc),
         }
     }
 
@@ -150,21 +156,37 @@ impl Groups {
         &self.items[place]
     }
 
-    /// Makes room for one more.
-    pub(crate) fn reserve_one(&mut self) -> Result<(), NoMemory>
+    /// The place of the group with this name.
+    pub(crate) fn place(&self, name: &Name) -> Option<usize>
+        ensures { IsPlace (group_named self.now.items name.now) self.now.items result }
+    {
+        self.places.place(name)
+    }
+
+    pub(crate) fn has(&self, name: &Name) -> bool
+        ensures { result ≡ list_any (λ (g : Group). bytes_eq g.name name.now) self.now.items }
+    {
+        self.place(name).is_some()
+    }
+
+    /// Makes room for one more, of this name.
+    pub(crate) fn reserve_one(&mut self, alloc: Global, name: &Name) -> Result<(), NoMemory>
         ensures same { self.new.items ≡ self.old.items }
         ensures room { OnOk result (length self.new.items < self.new.room) }
+        ensures ready { OnOk result (self.new.next ≡ Some name.now) }
     {
         self.items.reserve(1)?;
-        Ok(())
+        self.places.reserve(alloc, name)
     }
 
     /// One more group, for which there is room. What all have accepted is summed up at the next event.
     pub(crate) fn push(&mut self, group: ScriptGroup)
-        requires { length self.old.items < self.old.room }
+        requires room { length self.old.items < self.old.room }
+        requires ready { self.old.next ≡ Some group.name }
         ensures { self.new.items ≡ self.old.items ++ group ∷ [] }
     {
         self.entries = None;
+        self.places.add_reserved(self.items.len());
         self.items.push(group).unwrap();
     }
 

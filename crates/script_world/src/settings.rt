@@ -53,7 +53,7 @@ impl World {
     {
         let alloc = self.alloc();
         let type_id = type_name(alloc, group.kind())?;
-        self.groups.reserve_one()?;
+        self.groups.reserve_one(alloc, group.name())?;
         match self.settings.adopt(alloc, group.id(), &type_id, criteria) {
             Err(_) => Err(NoMemory),
             Ok(()) => {

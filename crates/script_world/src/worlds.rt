@@ -1,6 +1,5 @@
 ghost use Rattle.std.specs.Prelude.{◌≡◌, ℕ, ◌+◌, ◌*◌, ◌<◌, ◌≤◌, ◌^◌, [], ◌∷◌, ◌++◌, None, Some, false, true, length, map, nat_lt, slice_get, slice_set, is_some, IfOk, IfSome, MatchOption, OnOk, option_copied};
-ghost use Rattle.std.specs.List.{AllByRecursion, list_any};
-ghost use Rattle.std.specs.Str.{bytes_eq};
+ghost use Rattle.std.specs.List.{AllByRecursion};
 ghost use Rattle.ft_base.specs.declared.limits.TheConstants.{HOST_LIMIT};
 ghost use Rattle.group_model.specs.Sending.{sent_by};
 ghost use Rattle.group_references.specs.Ports.{all_ports};
@@ -89,24 +88,6 @@ impl Model for World {
     ghost view = { world_of };
 
     ghost invariant = { λ a. IsSound (world_of a) × (a.ports ≡ all_ports) };
-}
-
-// The place of the group with this name.
-fn group_place(groups: &[ScriptGroup], name: &Name) -> Option<usize>
-    ensures { IsPlace (group_named groups.now name.now) groups.now result }
-{
-    for (place, group) in groups.iter().enumerate() {
-        if group.name().is(name) {
-            return Some(place);
-        }
-    }
-    None
-}
-
-fn is_group(groups: &[ScriptGroup], name: &Name) -> bool
-    ensures { result ≡ list_any (λ (g : Group). bytes_eq g.name name.now) groups.now }
-{
-    groups.iter().any(|group| group.name().is(name))
 }
 
 fn ticked(host: HostState, ticks: u32) -> HostState
@@ -222,15 +203,13 @@ impl World {
     pub fn is_named(&self, name: &Name) -> bool
         ensures { result ≡ is_named self.now name.now }
     {
-        is_group(self.groups.as_slice(), name)
-            || self.clients.has(name)
-            || self.subscribers.is_named(name)
+        self.groups.has(name) || self.clients.has(name) || self.subscribers.is_named(name)
     }
 
     pub fn group_place(&self, name: &Name) -> Option<usize>
         ensures { IsPlace (group_named self.now.groups name.now) self.now.groups result }
     {
-        group_place(self.groups.as_slice(), name)
+        self.groups.place(name)
     }
 
     /// The place of the group with this number, from 1.

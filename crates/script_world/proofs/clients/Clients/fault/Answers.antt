@@ -1,7 +1,10 @@
 use Rattle.std.proofs.Common.{length, refl, sym, subst, ◌<◌, List}
 use Rattle.std.proofs.lemmas.Option.{slice_get_read}
+use Rattle.std.specs.Prelude.{slice_set}
 use Rattle.script_clients.specs.Clients.{Client, failing}
-use Rattle.script_world.proofs.ClientLemmas.{places_stay, failed_keeps, turned_at}
+use Rattle.script_world.specs.Names.{names_of}
+use Rattle.script_world.proofs.NameLemmas.{names_stay, places_stay}
+use Rattle.script_world.proofs.ClientLemmas.{failed_keeps, turned_at}
 use Rattle.script_world.proofs.clients.Clients.fault.Goals as goal
 
 pub invariant_of-self : goal.invariant_of-self
@@ -10,8 +13,9 @@ invariant_of-self c =
     let client = c.index_mut-client.result.now in
     let inside = subst (λ (cs : List Client). c.args.place < length cs) (sym c.self.view_is) c.requires in
     let there = slice_get_read items (length items) c.args.place client refl inside c.index_mut-client.ensures.value in
-    places_stay c.self.inside.places items c.args.place client c.fault.new.self c.self.invariant there
-    (failed_keeps client c.fault.new.self c.args.now c.fault.ensures.client)
+    places_stay c.self.inside.places (names_of items) (names_of (slice_set items c.args.place c.fault.new.self)) c.self.invariant
+    (names_stay (λ (x : Client). x.name) items c.args.place client c.fault.new.self there
+    (failed_keeps client c.fault.new.self c.args.now c.fault.ensures.client))
 
 pub returns : goal.returns
 returns c =
