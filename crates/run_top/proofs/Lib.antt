@@ -1,3 +1,4 @@
 pub mod PlayingLemmas
 pub mod WordLemmas
 pub mod MadeLemmas
+pub mod EndLemmas
