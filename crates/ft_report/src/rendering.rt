@@ -37,6 +37,78 @@ fn end_line(text: &mut Vec<u8>) -> Result<(), NoMemory>
     Ok(())
 }
 
+// Lines of few words, each by its form. A line's words are an array of its function, so they stand in functions
+// of their own: one that had the words of all lines would make room for all of them whichever it writes.
+
+#[inline(never)]
+fn word_line(text: &mut Vec<u8>, word: &'static [u8]) -> Result<(), NoMemory>
+    ensures { OnOk result (text.new.items ≡ text.old.items ++ line (word.now ∷ [])) }
+{
+    push_line(text, &[Fixed(word)])
+}
+
+#[inline(never)]
+fn number_line(text: &mut Vec<u8>, word: &'static [u8], number: u64) -> Result<(), NoMemory>
+    ensures { OnOk result (text.new.items ≡ text.old.items ++ line (word.now ∷ decimal number ∷ [])) }
+{
+    push_line(text, &[Fixed(word), Number(number)])
+}
+
+#[inline(never)]
+fn name_line(text: &mut Vec<u8>, word: &'static [u8], name: &Name) -> Result<(), NoMemory>
+    ensures { OnOk result (text.new.items ≡ text.old.items ++ line (word.now ∷ name.now ∷ [])) }
+{
+    push_line(text, &[Fixed(word), Text(name.bytes())])
+}
+
+#[inline(never)]
+fn name_number_line(
+    text: &mut Vec<u8>,
+    word: &'static [u8],
+    name: &Name,
+    number: u64,
+) -> Result<(), NoMemory>
+    ensures { OnOk result (text.new.items ≡ text.old.items ++ line (word.now ∷ name.now ∷ decimal number ∷ [])) }
+{
+    push_line(text, &[Fixed(word), Text(name.bytes()), Number(number)])
+}
+
+#[inline(never)]
+fn name_word_line(
+    text: &mut Vec<u8>,
+    word: &'static [u8],
+    name: &Name,
+    last: &'static [u8],
+) -> Result<(), NoMemory>
+    ensures { OnOk result (text.new.items ≡ text.old.items ++ line (word.now ∷ name.now ∷ last.now ∷ [])) }
+{
+    push_line(text, &[Fixed(word), Text(name.bytes()), Fixed(last)])
+}
+
+// A message that nobody heeds, and what it is or why.
+#[inline(never)]
+fn unheeded_line(text: &mut Vec<u8>, message: u64, what: &'static [u8]) -> Result<(), NoMemory>
+    ensures { OnOk result (text.new.items ≡ text.old.items ++ line (codes "ignored" ∷ decimal message ∷ what.now ∷ [])) }
+{
+    push_line(text, &[Fixed(b"ignored"), Number(message), Fixed(what)])
+}
+
+#[inline(never)]
+fn applied_line(text: &mut Vec<u8>, message: u64, position: u32) -> Result<(), NoMemory>
+    ensures { OnOk result (text.new.items ≡ text.old.items ++ line (codes "applied" ∷ decimal message ∷ codes "at" ∷ decimal position ∷ [])) }
+{
+    push_line(
+        text,
+        &[
+            Fixed(b"applied"),
+            Number(message),
+            Fixed(b"at"),
+            Number(u64::from(position)),
+        ],
+    )
+}
+
+#[inline(never)]
 fn view_line(
     text: &mut Vec<u8>,
     alloc: Global,
@@ -62,6 +134,7 @@ fn view_line(
     )
 }
 
+#[inline(never)]
 fn attempt_line(
     text: &mut Vec<u8>,
     alloc: Global,
@@ -113,6 +186,7 @@ fn push_reply(
     )
 }
 
+#[inline(never)]
 fn reply_line(
     text: &mut Vec<u8>,
     alloc: Global,
@@ -129,6 +203,7 @@ fn reply_line(
     end_line(text)
 }
 
+#[inline(never)]
 fn at_line(
     text: &mut Vec<u8>,
     alloc: Global,
@@ -146,6 +221,7 @@ fn at_line(
     end_line(text)
 }
 
+#[inline(never)]
 fn done_line(
     text: &mut Vec<u8>,
     alloc: Global,
@@ -168,6 +244,7 @@ fn done_line(
 }
 
 // A message to a host: the words that stand before the host's number, and what it is told.
+#[inline(never)]
 fn told_line(
     text: &mut Vec<u8>,
     alloc: Global,
@@ -190,6 +267,7 @@ fn told_line(
     )
 }
 
+#[inline(never)]
 fn view_message_line(
     text: &mut Vec<u8>,
     alloc: Global,
@@ -205,6 +283,7 @@ fn view_message_line(
 }
 
 // A message from one host to another.
+#[inline(never)]
 fn between_hosts(alloc: Global, message: u64, from: HostNo, to: HostNo) -> Result<Bytes, NoMemory>
     ensures { IfOk result (λ bytes. bytes ≡ between_hosts message from.0 to.0) }
 {
@@ -221,6 +300,7 @@ fn between_hosts(alloc: Global, message: u64, from: HostNo, to: HostNo) -> Resul
     )
 }
 
+#[inline(never)]
 fn state_line(
     text: &mut Vec<u8>,
     alloc: Global,
@@ -241,6 +321,7 @@ fn state_line(
     )
 }
 
+#[inline(never)]
 fn update_line(
     text: &mut Vec<u8>,
     alloc: Global,
@@ -263,6 +344,7 @@ fn update_line(
     )
 }
 
+#[inline(never)]
 fn order_line(
     text: &mut Vec<u8>,
     alloc: Global,
@@ -285,6 +367,7 @@ fn order_line(
 
 // A message of the monitor to a host, or of a host to the monitor: the words that stand before and
 // behind the host's number, and the group that it is about.
+#[inline(never)]
 fn monitor_line<'a>(
     text: &mut Vec<u8>,
     alloc: Global,
@@ -309,6 +392,7 @@ fn monitor_line<'a>(
     )
 }
 
+#[inline(never)]
 fn held_line(
     text: &mut Vec<u8>,
     alloc: Global,
@@ -331,6 +415,7 @@ fn held_line(
     )
 }
 
+#[inline(never)]
 fn known_line(
     text: &mut Vec<u8>,
     alloc: Global,
@@ -351,6 +436,7 @@ fn known_line(
     )
 }
 
+#[inline(never)]
 fn ignored_line(
     text: &mut Vec<u8>,
     alloc: Global,
@@ -366,6 +452,7 @@ fn ignored_line(
     )
 }
 
+#[inline(never)]
 fn adopted_line<'a>(
     text: &mut Vec<u8>,
     alloc: Global,
@@ -386,6 +473,7 @@ fn adopted_line<'a>(
     )
 }
 
+#[inline(never)]
 fn bound_line<'a>(
     text: &mut Vec<u8>,
     alloc: Global,
@@ -406,6 +494,7 @@ fn bound_line<'a>(
     )
 }
 
+#[inline(never)]
 fn refused_line(text: &mut Vec<u8>, alloc: Global, fault: ManageFault) -> Result<(), NoMemory>
     ensures { OnOk result (text.new.items ≡ text.old.items ++ report_text (ReportLine.Refused fault)) }
 {
@@ -413,6 +502,7 @@ fn refused_line(text: &mut Vec<u8>, alloc: Global, fault: ManageFault) -> Result
     push_line(text, &[Fixed(b"refused"), Made(fault.bytes())])
 }
 
+#[inline(never)]
 fn refused_setting_line(text: &mut Vec<u8>, fault: SettingFault) -> Result<(), NoMemory>
     ensures { OnOk result (text.new.items ≡ text.old.items ++ report_text (ReportLine.RefusedSetting fault)) }
 {
@@ -421,6 +511,7 @@ fn refused_setting_line(text: &mut Vec<u8>, fault: SettingFault) -> Result<(), N
     end_line(text)
 }
 
+#[inline(never)]
 fn refused_subscriber_line(text: &mut Vec<u8>, fault: SubscribeFault) -> Result<(), NoMemory>
     ensures { OnOk result (text.new.items ≡ text.old.items ++ report_text (ReportLine.RefusedSubscriber fault)) }
 {
@@ -429,6 +520,7 @@ fn refused_subscriber_line(text: &mut Vec<u8>, fault: SubscribeFault) -> Result<
     end_line(text)
 }
 
+#[inline(never)]
 fn fault_line<'a>(
     text: &mut Vec<u8>,
     alloc: Global,
@@ -451,6 +543,7 @@ fn fault_line<'a>(
     )
 }
 
+#[inline(never)]
 fn bytes_line(text: &mut Vec<u8>, alloc: Global, written: &Bytes) -> Result<(), NoMemory>
     ensures { OnOk result (text.new.items ≡ text.old.items ++ report_text (ReportLine.Bytes written.now)) }
 {
@@ -458,6 +551,7 @@ fn bytes_line(text: &mut Vec<u8>, alloc: Global, written: &Bytes) -> Result<(), 
     push_line(text, &[Fixed(b"bytes"), Made(written.bytes())])
 }
 
+#[inline(never)]
 fn malformed_line(text: &mut Vec<u8>, alloc: Global, why: Why, place: u32) -> Result<(), NoMemory>
     ensures { OnOk result (text.new.items ≡ text.old.items ++ report_text (ReportLine.LinkMalformed why place)) }
 {
@@ -476,18 +570,14 @@ pub fn write_line(text: &mut Vec<u8>, alloc: Global, line: &ReportLine) -> Resul
     ensures { OnOk result (text.new.items ≡ text.old.items ++ report_text line.now) }
 {
     match line {
-        ReportLine::Group { name, id } => {
-            push_line(text, &[Fixed(b"group"), Text(name.bytes()), Number(id.0)])
-        }
+        ReportLine::Group { name, id } => name_number_line(text, b"group", name, id.0),
         ReportLine::View {
             group,
             version,
             members,
             primary,
         } => view_line(text, alloc, group, *version, members, *primary),
-        ReportLine::Deleted { group } => {
-            push_line(text, &[Fixed(b"deleted"), Text(group.bytes())])
-        }
+        ReportLine::Deleted { group } => name_line(text, b"deleted", group),
         ReportLine::Attempt {
             message,
             client,
@@ -569,15 +659,7 @@ pub fn write_line(text: &mut Vec<u8>, alloc: Global, line: &ReportLine) -> Resul
             b"to monitor pong",
             group,
         ),
-        ReportLine::Applied { message, position } => push_line(
-            text,
-            &[
-                Fixed(b"applied"),
-                Number(*message),
-                Fixed(b"at"),
-                Number(u64::from(*position)),
-            ],
-        ),
+        ReportLine::Applied { message, position } => applied_line(text, *message, *position),
         ReportLine::Held {
             message,
             index,
@@ -588,29 +670,13 @@ pub fn write_line(text: &mut Vec<u8>, alloc: Global, line: &ReportLine) -> Resul
             group,
             version,
         } => known_line(text, alloc, *host, group, *version),
-        ReportLine::Alive { group, host } => push_line(
-            text,
-            &[
-                Fixed(b"alive"),
-                Text(group.bytes()),
-                Number(u64::from(host.0)),
-            ],
-        ),
-        ReportLine::Lost { message } => push_line(text, &[Fixed(b"lost"), Number(*message)]),
-        ReportLine::UnheardReply { message } => {
-            push_line(
-                text,
-                &[Fixed(b"ignored"), Number(*message), Fixed(b"reply")],
-            )
+        ReportLine::Alive { group, host } => {
+            name_number_line(text, b"alive", group, u64::from(host.0))
         }
-        ReportLine::IgnoredDeleted { message } => push_line(
-            text,
-            &[Fixed(b"ignored"), Number(*message), Fixed(b"deleted")],
-        ),
-        ReportLine::IgnoredUnwatched { message } => push_line(
-            text,
-            &[Fixed(b"ignored"), Number(*message), Fixed(b"unwatched")],
-        ),
+        ReportLine::Lost { message } => number_line(text, b"lost", *message),
+        ReportLine::UnheardReply { message } => unheeded_line(text, *message, b"reply"),
+        ReportLine::IgnoredDeleted { message } => unheeded_line(text, *message, b"deleted"),
+        ReportLine::IgnoredUnwatched { message } => unheeded_line(text, *message, b"unwatched"),
         ReportLine::Ignored { message, why } => ignored_line(text, alloc, *message, *why),
         ReportLine::Adopted {
             client,
@@ -623,39 +689,24 @@ pub fn write_line(text: &mut Vec<u8>, alloc: Global, line: &ReportLine) -> Resul
             version,
         } => bound_line(text, alloc, client, group, *version),
         ReportLine::Done { client, call, end } => done_line(text, alloc, client, *call, end),
-        ReportLine::Busy { client } => push_line(text, &[Fixed(b"busy"), Text(client.bytes())]),
-        ReportLine::Idle { client } => push_line(text, &[Fixed(b"idle"), Text(client.bytes())]),
-        ReportLine::Down { host } => {
-            push_line(text, &[Fixed(b"down"), Number(u64::from(host.0))])
-        }
-        ReportLine::Up { host } => push_line(text, &[Fixed(b"up"), Number(u64::from(host.0))]),
+        ReportLine::Busy { client } => name_line(text, b"busy", client),
+        ReportLine::Idle { client } => name_line(text, b"idle", client),
+        ReportLine::Down { host } => number_line(text, b"down", u64::from(host.0)),
+        ReportLine::Up { host } => number_line(text, b"up", u64::from(host.0)),
         ReportLine::Refused(fault) => refused_line(text, alloc, *fault),
         ReportLine::RefusedSetting(fault) => refused_setting_line(text, *fault),
         ReportLine::RefusedSubscriber(fault) => refused_subscriber_line(text, *fault),
-        ReportLine::PollNone { group } => push_line(
-            text,
-            &[Fixed(b"poll"), Text(group.bytes()), Fixed(b"none")],
-        ),
-        ReportLine::SweepNone { group } => push_line(
-            text,
-            &[Fixed(b"sweep"), Text(group.bytes()), Fixed(b"none")],
-        ),
-        ReportLine::Subscribed { subscriber } => {
-            push_line(text, &[Fixed(b"subscribed"), Text(subscriber.bytes())])
-        }
-        ReportLine::Unsubscribed { subscriber } => {
-            push_line(text, &[Fixed(b"unsubscribed"), Text(subscriber.bytes())])
-        }
+        ReportLine::PollNone { group } => name_word_line(text, b"poll", group, b"none"),
+        ReportLine::SweepNone { group } => name_word_line(text, b"sweep", group, b"none"),
+        ReportLine::Subscribed { subscriber } => name_line(text, b"subscribed", subscriber),
+        ReportLine::Unsubscribed { subscriber } => name_line(text, b"unsubscribed", subscriber),
         ReportLine::Fault {
             subscriber,
             host,
             id,
             group,
         } => fault_line(text, alloc, subscriber, *host, *id, group),
-        ReportLine::NoFault { subscriber } => push_line(
-            text,
-            &[Fixed(b"fault"), Text(subscriber.bytes()), Fixed(b"none")],
-        ),
+        ReportLine::NoFault { subscriber } => name_word_line(text, b"fault", subscriber, b"none"),
         ReportLine::Checkpoint {
             group,
             host,
@@ -663,20 +714,10 @@ pub fn write_line(text: &mut Vec<u8>, alloc: Global, line: &ReportLine) -> Resul
             time,
         } => checkpoint_line(text, group, *host, *position, *time),
         ReportLine::CheckpointNone { group } => {
-            push_line(
-                text,
-                &[Fixed(b"checkpoint"), Text(group.bytes()), Fixed(b"none")],
-            )
+            name_word_line(text, b"checkpoint", group, b"none")
         }
         ReportLine::CheckpointFailed { group } => {
-            push_line(
-                text,
-                &[
-                    Fixed(b"checkpoint"),
-                    Text(group.bytes()),
-                    Fixed(b"logfault"),
-                ],
-            )
+            name_word_line(text, b"checkpoint", group, b"logfault")
         }
         ReportLine::Updated {
             group,
@@ -684,12 +725,7 @@ pub fn write_line(text: &mut Vec<u8>, alloc: Global, line: &ReportLine) -> Resul
             base,
             position,
         } => updated_line(text, group, *host, *base, *position),
-        ReportLine::UpdateNone { group } => {
-            push_line(
-                text,
-                &[Fixed(b"update"), Text(group.bytes()), Fixed(b"none")],
-            )
-        }
+        ReportLine::UpdateNone { group } => name_word_line(text, b"update", group, b"none"),
         ReportLine::Property { name, value } => property_line(text, alloc, name, value),
         ReportLine::Show {
             group,
@@ -704,9 +740,7 @@ pub fn write_line(text: &mut Vec<u8>, alloc: Global, line: &ReportLine) -> Resul
             standing,
         } => member_line(text, alloc, *host, *role, standing),
         ReportLine::Locations { group, members } => locations_line(text, alloc, group, members),
-        ReportLine::Id { group, id } => {
-            push_line(text, &[Fixed(b"id"), Text(group.bytes()), Number(id.0)])
-        }
+        ReportLine::Id { group, id } => name_number_line(text, b"id", group, id.0),
         ReportLine::Ref {
             group,
             text: reference,
@@ -718,11 +752,9 @@ pub fn write_line(text: &mut Vec<u8>, alloc: Global, line: &ReportLine) -> Resul
         } => member_ref_line(text, alloc, group, *host, reference),
         ReportLine::NoGroup { host } => no_group_line(text, alloc, *host),
         ReportLine::Bytes(written) => bytes_line(text, alloc, written),
-        ReportLine::LinkClosed => push_line(text, &[Fixed(b"link closed")]),
+        ReportLine::LinkClosed => word_line(text, b"link closed"),
         ReportLine::LinkMalformed { why, place } => malformed_line(text, alloc, *why, *place),
-        ReportLine::LinkTooLarge(size) => {
-            push_line(text, &[Fixed(b"link too-large"), Number(*size)])
-        }
-        ReportLine::LinkLost => push_line(text, &[Fixed(b"link lost")]),
+        ReportLine::LinkTooLarge(size) => number_line(text, b"link too-large", *size),
+        ReportLine::LinkLost => word_line(text, b"link lost"),
     }
 }

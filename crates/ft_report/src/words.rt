@@ -35,6 +35,7 @@ fn push_digits(text: &mut Vec<u8>, number: u64) -> Result<(), NoMemory>
     Ok(())
 }
 
+#[inline(always)]
 fn push_word(text: &mut Vec<u8>, word: &Word) -> Result<(), NoMemory>
     ensures { OnOk result (text.new.items ≡ text.old.items ++ word_text word.now) }
 {
@@ -57,6 +58,7 @@ fn push_word(text: &mut Vec<u8>, word: &Word) -> Result<(), NoMemory>
     Ok(())
 }
 
+#[inline(always)]
 fn push_each(text: &mut Vec<u8>, separator: u8, words: &[Word]) -> Result<(), NoMemory>
     ensures { OnOk result (text.new.items ≡ text.old.items ++ flat_map (λ word. separator ∷ word_text word) words.now) }
 {
