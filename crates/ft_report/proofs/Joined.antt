@@ -1,5 +1,5 @@
 -- Words that are joined_text one after another.
-use Rattle.std.proofs.Common.{◌≡◌, ℕ, List, [], ◌∷◌, ◌++◌, map, ap, append_assoc, ◌∙◌, sym}
+use Rattle.std.proofs.Common.{◌≡◌, ℕ, List, [], ◌∷◌, ◌++◌, map, ap, append_assoc, append-nil, ◌∙◌, sym}
 use Rattle.std.proofs.lemmas.List.{flat_map_more}
 use Rattle.std.proofs.lemmas.List.Folds.{flat_map-map}
 use Rattle.std.specs.List.{IsFirstAndRest, flat_map}
@@ -27,3 +27,12 @@ said_line text first rest last =
     ap (λ (said : List ℕ). said ++ 10 ∷ [])
     (append_assoc text (phrase_text (first ∷ rest) ++ 32 ∷ []) last ∙ ap (λ (said : List ℕ). text ++ said) (front_and_last 32 first rest last))
     ∙ append_assoc text (phrase_text (first ∷ (rest ++ last ∷ []))) (10 ∷ [])
+
+-- parts that are written one behind the other
+abbrev pub written_behind : List ℕ → List (List ℕ) → List ℕ
+written_behind text [] = text
+written_behind text (part ∷ parts) = written_behind (text ++ part) parts
+
+pub parts_join : (text : List ℕ) (parts : List (List ℕ)) → written_behind text parts ≡ text ++ flat_map (λ part. part) parts
+parts_join text [] = sym (append-nil text)
+parts_join text (part ∷ parts) = parts_join (text ++ part) parts ∙ append_assoc text part (flat_map (λ more. more) parts)

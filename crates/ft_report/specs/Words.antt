@@ -1,11 +1,10 @@
 -- Words, and how a line is made of them.
 use Rattle.std.specs.Prelude.{ℕ, ◌==◌, if◌then◌else◌, List, [], ◌∷◌, ◌++◌, length, map, Option, Some, None, codes, decimal}
-use Rattle.std.specs.Fmt.{signed_decimal}
 use Rattle.std.specs.List.{flat_map}
 use Rattle.hex.specs.Hex.{encode_lower}
 use Rattle.ft_base.specs.declared.numbers.HostNo.{HostNo}
 use Rattle.ft_report.specs.declared.words.Word.{Word}
-use Rattle.ft_report.specs.declared.words.Word.TheVariants.{Fixed, Text, Made, Number, Signed, Host, Location}
+use Rattle.ft_report.specs.declared.words.Word.TheVariants.{Fixed, Text, Made, Number, Host, Location}
 
 -- texts, with a byte between each two
 abbrev pub joined_text : ℕ → List (List ℕ) → List ℕ
@@ -43,6 +42,5 @@ word_text (Fixed text) = text.now
 word_text (Text text) = text.now
 word_text (Made text) = text.now
 word_text (Number number) = decimal number
-word_text (Signed number) = signed_decimal number
 word_text (Host host) = host_text host
 word_text (Location host) = location_text host

@@ -5,8 +5,8 @@ ghost use Rattle.ft_report.specs.Report.{completed_text, decision_text, end_text
 
 use crate::outcomes::{ReportOutcome, Worth};
 use crate::reports::{CallEnd, Role, SettingFault, Standing, SubscribeFault};
-use crate::words::Word::{Fixed, Made, Number, Signed, Text};
-use crate::words::{octets, phrase, push_phrase};
+use crate::words::Word::{Fixed, Made, Number, Text};
+use crate::words::{octets, phrase, push_numbered, push_phrase, push_signed};
 use ft_base::{Bytes, Decision, HostNo, Ignored, Name, NoMemory, Version};
 use giop_messages::Why;
 use group_model::ManageFault;
@@ -73,7 +73,7 @@ fn push_worth(text: &mut Vec<u8>, alloc: Global, worth: &Worth) -> Result<(), No
 {
     match worth {
         Worth::Void => push_phrase(text, &[Fixed(b"void")]),
-        Worth::Number(number) => push_phrase(text, &[Signed(*number)]),
+        Worth::Number(number) => push_signed(text, *number),
         Worth::Flag(flag) => push_phrase(text, &[Fixed(flag_bytes(*flag))]),
         Worth::Octets(bytes) => push_octets(text, alloc, bytes),
     }
@@ -147,8 +147,7 @@ fn push_version(
 fn push_value(text: &mut Vec<u8>, alloc: Global, worth: &Worth) -> Result<(), NoMemory>
     ensures { OnOk result (text.new.items ≡ text.old.items ++ outcome_text (ReportOutcome.Value worth.now)) }
 {
-    push_phrase(text, &[Fixed(b"value")])?;
-    text.push(b' ')?;
+    text.extend_from_slice(b"value ")?;
     push_worth(text, alloc, worth)
 }
 
@@ -205,7 +204,8 @@ fn worded_numbers(
 fn push_number(text: &mut Vec<u8>, word: &'static [u8], number: u64) -> Result<(), NoMemory>
     ensures { OnOk result (text.new.items ≡ text.old.items ++ with_number word.now number) }
 {
-    push_phrase(text, &[Fixed(word), Number(number)])
+    text.extend_from_slice(word)?;
+    push_numbered(text, b" ", number)
 }
 
 // Writes a word and two numbers.

@@ -14,7 +14,9 @@ use crate::showing::{
 };
 use crate::transfers::{checkpoint_line, updated_line};
 use crate::words::Word::{Fixed, Host, Location, Made, Number, Text};
-use crate::words::{Word, hosts, octets, phrase, push_line, push_phrase};
+use crate::words::{
+    Word, hosts, octets, phrase, push_line, push_named, push_numbered, push_phrase,
+};
 use ft_base::{Bytes, Decision, GroupId, HostNo, Ignored, Members, Name, NoMemory, Version};
 use giop_messages::Why;
 use group_model::ManageFault;
@@ -160,7 +162,24 @@ fn attempt_line(
     )
 }
 
-// Writes the words of a reply that stand before what the request came to.
+// Writes the words of a reply, up to its id.
+fn push_replying(
+    text: &mut Vec<u8>,
+    message: u64,
+    host: HostNo,
+    client: &Name,
+    id: u32,
+) -> Result<(), NoMemory>
+    ensures { OnOk result (text.new.items ≡ text.old.items ++ phrase_text
+        (codes "msg" ∷ decimal message ∷ codes "host" ∷ decimal host.0 ∷ codes "to client" ∷ client.now ∷ codes "reply" ∷ decimal id ∷ [])) }
+{
+    push_numbered(text, b"msg ", message)?;
+    push_numbered(text, b" host ", u64::from(host.0))?;
+    push_named(text, b" to client ", client)?;
+    push_numbered(text, b" reply ", u64::from(id))
+}
+
+// The same, and the space before what the request came to.
 fn push_reply(
     text: &mut Vec<u8>,
     message: u64,
@@ -171,19 +190,9 @@ fn push_reply(
     ensures { OnOk result (text.new.items ≡ text.old.items ++ (phrase_text
         (codes "msg" ∷ decimal message ∷ codes "host" ∷ decimal host.0 ∷ codes "to client" ∷ client.now ∷ codes "reply" ∷ decimal id ∷ []) ++ 32 ∷ [])) }
 {
-    push_front(
-        text,
-        &[
-            Fixed(b"msg"),
-            Number(message),
-            Fixed(b"host"),
-            Number(u64::from(host.0)),
-            Fixed(b"to client"),
-            Text(client.bytes()),
-            Fixed(b"reply"),
-            Number(u64::from(id)),
-        ],
-    )
+    push_replying(text, message, host, client, id)?;
+    text.push(b' ')?;
+    Ok(())
 }
 
 #[inline(never)]
@@ -203,6 +212,16 @@ fn reply_line(
     end_line(text)
 }
 
+// Writes the words that stand before what a host made of a request.
+fn push_at(text: &mut Vec<u8>, host: HostNo, group: &Name) -> Result<(), NoMemory>
+    ensures { OnOk result (text.new.items ≡ text.old.items ++ (phrase_text (codes "at" ∷ decimal host.0 ∷ group.now ∷ []) ++ 32 ∷ [])) }
+{
+    push_numbered(text, b"at ", u64::from(host.0))?;
+    push_named(text, b" ", group)?;
+    text.push(b' ')?;
+    Ok(())
+}
+
 #[inline(never)]
 fn at_line(
     text: &mut Vec<u8>,
@@ -213,12 +232,19 @@ fn at_line(
 ) -> Result<(), NoMemory>
     ensures { OnOk result (text.new.items ≡ text.old.items ++ report_text (ReportLine.At host group.now decision)) }
 {
-    push_front(
-        text,
-        &[Fixed(b"at"), Number(u64::from(host.0)), Text(group.bytes())],
-    )?;
+    push_at(text, host, group)?;
     push_decision(text, decision)?;
     end_line(text)
+}
+
+// Writes the words that stand before how a client's invocation ended.
+fn push_done(text: &mut Vec<u8>, client: &Name, call: u32) -> Result<(), NoMemory>
+    ensures { OnOk result (text.new.items ≡ text.old.items ++ (phrase_text (codes "done" ∷ client.now ∷ decimal call ∷ []) ++ 32 ∷ [])) }
+{
+    push_named(text, b"done ", client)?;
+    push_numbered(text, b" ", u64::from(call))?;
+    text.push(b' ')?;
+    Ok(())
 }
 
 #[inline(never)]
@@ -231,14 +257,7 @@ fn done_line(
 ) -> Result<(), NoMemory>
     ensures { OnOk result (text.new.items ≡ text.old.items ++ report_text (ReportLine.Done client.now call end.now)) }
 {
-    push_front(
-        text,
-        &[
-            Fixed(b"done"),
-            Text(client.bytes()),
-            Number(u64::from(call)),
-        ],
-    )?;
+    push_done(text, client, call)?;
     push_end(text, alloc, end)?;
     end_line(text)
 }
@@ -548,7 +567,9 @@ fn bytes_line(text: &mut Vec<u8>, alloc: Global, written: &Bytes) -> Result<(), 
     ensures { OnOk result (text.new.items ≡ text.old.items ++ report_text (ReportLine.Bytes written.now)) }
 {
     let written = octets(alloc, written)?;
-    push_line(text, &[Fixed(b"bytes"), Made(written.bytes())])
+    text.extend_from_slice(b"bytes ")?;
+    text.extend_from_slice(written.bytes())?;
+    end_line(text)
 }
 
 #[inline(never)]

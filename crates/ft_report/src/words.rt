@@ -1,8 +1,9 @@
 ghost use Rattle.std.specs.Prelude.{◌≡◌, ◌++◌, ◌∷◌, [], ℕ, map, decimal, IfOk, OnOk};
+ghost use Rattle.std.specs.Fmt.{signed_decimal};
 ghost use Rattle.std.specs.List.{flat_map};
 ghost use Rattle.ft_report.specs.Words.{hosts_text, joined_text, line, octets_text, phrase_text, word_text};
 
-use ft_base::{Bytes, HostNo, Members, NoMemory};
+use ft_base::{Bytes, HostNo, Members, Name, NoMemory};
 use itoa::Buffer;
 use std::alloc::Global;
 
@@ -20,18 +21,47 @@ pub enum Word<'a, 'b> {
     /// A text that is made for the line.
     Made(&'b [u8]),
     Number(u64),
-    Signed(i64),
     /// A host's number; `-` for none.
     Host(Option<HostNo>),
     /// Where a host's objects are: `h` and the host's number.
     Location(HostNo),
 }
 
+#[inline(always)]
 fn push_digits(text: &mut Vec<u8>, number: u64) -> Result<(), NoMemory>
     ensures { OnOk result (text.new.items ≡ text.old.items ++ decimal number) }
 {
     let mut digits = Buffer::new();
     text.extend_from_slice(digits.format(number).as_bytes())?;
+    Ok(())
+}
+
+/// Writes a number with its sign, where it has one.
+#[inline(always)]
+pub fn push_signed(text: &mut Vec<u8>, number: i64) -> Result<(), NoMemory>
+    ensures { OnOk result (text.new.items ≡ text.old.items ++ signed_decimal number) }
+{
+    let mut digits = Buffer::new();
+    text.extend_from_slice(digits.format(number).as_bytes())?;
+    Ok(())
+}
+
+/// Writes a text, and a number behind it.
+#[inline(always)]
+pub fn push_numbered(text: &mut Vec<u8>, before: &'static [u8], number: u64) -> Result<(), NoMemory>
+    ensures { OnOk result (text.new.items ≡ text.old.items ++ (before.now ++ decimal number)) }
+{
+    text.extend_from_slice(before)?;
+    push_digits(text, number)
+}
+
+/// Writes a text, and a name behind it.
+#[inline(always)]
+pub fn push_named(text: &mut Vec<u8>, before: &'static [u8], name: &Name) -> Result<(), NoMemory>
+    ensures { OnOk result (text.new.items ≡ text.old.items ++ (before.now ++ name.now)) }
+{
+    text.extend_from_slice(before)?;
+    text.extend_from_slice(name.bytes())?;
     Ok(())
 }
 
@@ -44,10 +74,6 @@ fn push_word(text: &mut Vec<u8>, word: &Word) -> Result<(), NoMemory>
         Word::Text(part) => text.extend_from_slice(part)?,
         Word::Made(part) => text.extend_from_slice(part)?,
         Word::Number(number) => push_digits(text, *number)?,
-        Word::Signed(number) => {
-            let mut digits = Buffer::new();
-            text.extend_from_slice(digits.format(*number).as_bytes())?;
-        }
         Word::Host(None) => text.extend_from_slice(b"-")?,
         Word::Host(Some(host)) => push_digits(text, u64::from(host.0))?,
         Word::Location(host) => {
