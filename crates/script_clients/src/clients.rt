@@ -10,6 +10,7 @@ use client_retry::{ClientCore, Heard};
 use ft_base::{GroupId, Name, NoMemory, Request, Tick};
 use iogr_reference::GroupRef;
 use std::alloc::Global;
+use std::collections::VecDeque;
 use std::marker::Model;
 
 /// A client of a script. It sends nothing itself. Contracts see it as the plain client that all that has
@@ -19,7 +20,7 @@ pub struct ScriptClient {
     name: Name,
     started: u32,
     numbered: u32,
-    others: Vec<GroupRef>,
+    others: VecDeque<GroupRef>,
     core: ClientCore,
     call: Option<Call>,
     history: History,
@@ -52,7 +53,7 @@ impl ScriptClient {
             name,
             started: 0,
             numbered: 0,
-            others: Vec::new(alloc),
+            others: VecDeque::new(alloc),
             core: ClientCore::new(),
             call: None,
             history,
