@@ -178,8 +178,12 @@ impl<'a> CdrReader<'a> {
         ensures { Reads (λ n. n) (number 8).read result self.old self.new }
     {
         let order = self.order();
-        let digits = self.digits(8)?;
-        Ok(number_of_u64(order, digits))
+        // A fault that is handed on whole, as by `?`, is moved as eight bytes that lie across those of the
+        // number, so that neither stays in a register: it is taken apart.
+        match self.digits(8) {
+            Ok(digits) => Ok(number_of_u64(order, digits)),
+            Err(CdrFault { why, place }) => Err(CdrFault { why, place }),
+        }
     }
 
     /// A short.
@@ -202,8 +206,11 @@ impl<'a> CdrReader<'a> {
     pub fn read_i64(&mut self) -> Result<i64, CdrFault>
         ensures { Reads (λ n. n) (signed w64).read result self.old self.new }
     {
-        let number = self.read_u64()?;
-        Ok(number.cast_signed())
+        // The fault as in `read_u64`.
+        match self.read_u64() {
+            Ok(number) => Ok(number.cast_signed()),
+            Err(CdrFault { why, place }) => Err(CdrFault { why, place }),
+        }
     }
 
     /// A boolean: one octet, 0 or 1.

@@ -6,7 +6,7 @@ ghost use Rattle.cdr_codec.specs.Arguments.{param, params, written_value};
 ghost use Rattle.cdr_codec.specs.Calls.{field_fault, Gives, appended, appended_each};
 ghost use Rattle.cdr_codec.specs.Copies.{Copies};
 
-use crate::faults::FieldFault;
+use crate::faults::{CdrFault, FieldFault};
 use crate::orders::Order;
 use crate::readers::CdrReader;
 use crate::writers::CdrWriter;
@@ -18,10 +18,11 @@ pub fn read_value(alloc: Global, par: Par, reader: &mut CdrReader) -> Result<Val
     ensures { Gives (λ value. value) field_fault result ((param par).read reader.old) reader.new }
 {
     match par {
-        Par::I64 => {
-            let number = reader.read_i64()?;
-            Ok(Value::I64(number))
-        }
+        // The most common type: its fault is taken apart, as in `CdrReader::read_u64`.
+        Par::I64 => match reader.read_i64() {
+            Ok(number) => Ok(Value::I64(number)),
+            Err(CdrFault { why, place }) => Err(FieldFault::Bad(CdrFault { why, place })),
+        },
         Par::U32 => {
             let number = reader.read_u32()?;
             Ok(Value::U32(number))
@@ -67,11 +68,14 @@ pub(crate) fn copy_value(
     ensures { Copies (param par) result reader.old reader.new writer.old writer.new }
 {
     match par {
-        Par::I64 => {
-            let number = reader.read_i64()?;
-            writer.write_i64(number)?;
-            Ok(())
-        }
+        // Its fault is taken apart, as in `read_value`.
+        Par::I64 => match reader.read_i64() {
+            Ok(number) => {
+                writer.write_i64(number)?;
+                Ok(())
+            }
+            Err(CdrFault { why, place }) => Err(FieldFault::Bad(CdrFault { why, place })),
+        },
         Par::U32 => {
             let number = reader.read_u32()?;
             writer.write_u32(number)?;

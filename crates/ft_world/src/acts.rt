@@ -33,6 +33,7 @@ fn is_timely(line: &Line)
 }
 
 // What a line does, before its totals are judged.
+#[inline(always)]
 fn act_first<L: Ledger>(
     world: &mut World,
     line: Line,

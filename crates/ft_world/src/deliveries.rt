@@ -271,6 +271,7 @@ fn reply_size(
 }
 
 // Sends a reply.
+#[inline(always)]
 fn send_reply(world: &mut World, asker: &Asker, answer: Answer) -> Result<(), NoMemory>
     requires kept { IsKeptWorld world.old }
     requires form { IsInForm asker.now.gives answer }
@@ -365,6 +366,7 @@ fn answered<L: Ledger>(
 }
 
 // Who asks by this attempt, of the group at this place.
+#[inline(always)]
 fn who_asks(
     world: &World,
     client: usize,

@@ -19,6 +19,7 @@ pub(crate) fn gives_of(signature: Option<Signature>) -> Option<Par>
     }
 }
 
+#[inline(always)]
 fn shown_outcome(
     alloc: Global,
     gives: Option<Par>,

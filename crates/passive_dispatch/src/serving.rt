@@ -114,6 +114,7 @@ fn accept<K: Keeper, S: Servant + Drop, L: Ledger>(
 /// Serves a request at a host whose replica has run the whole journal, for a writer that knows the
 /// newest version; the request may be run by its servant, and its arguments aren't too long. It takes no
 /// part in what a host of an active group sends to the others.
+#[inline(always)]
 pub fn serve<K: Keeper, S: Servant + Drop, L: Ledger>(
     alloc: Global,
     log: &mut Log<K>,

@@ -7,7 +7,8 @@ ghost use Rattle.reply_table.specs.Entries.{holder, without, is_call, is_unexpir
 ghost use Rattle.reply_table.specs.Ids.{AreFiled, IsFiledBy, IsAnsweredAt};
 
 use crate::entries::{Retained, is_held, is_unexpired};
-use crate::ids::{ID_LIMIT, id_of};
+use crate::ids::{ID_LIMIT, put_id};
+use arrayvec::ArrayVec;
 use ft_base::{Key, Outcome, Tick};
 use indexmap::IndexMap;
 
@@ -20,7 +21,8 @@ pub(crate) fn holder<'a>(rows: &'a Rows, key: &Key, now: Tick) -> Option<&'a Ret
 {
     // The length is what says that the ids in the map differ.
     let _count = rows.len();
-    let id = id_of(key);
+    let mut id = ArrayVec::new();
+    put_id(key, &mut id);
     match rows.get(id.as_slice()) {
         Some(entry) if is_held(now, key, &entry.request.key) => Some(entry),
         _ => None,
@@ -66,7 +68,8 @@ pub(crate) fn forget(rows: &mut Rows, key: &Key)
     ensures room { spare rows.old ≤ spare rows.new }
 {
     let _count = rows.len();
-    let id = id_of(key);
+    let mut id = ArrayVec::new();
+    put_id(key, &mut id);
     rows.shift_remove(id.as_slice());
 }
 
@@ -77,7 +80,8 @@ fn file(id: Vec<u8>, key: &Key) -> Vec<u8>
     ensures { IsFiledBy result.items key.now }
 {
     let mut id = id;
-    let bytes = id_of(key);
+    let mut bytes = ArrayVec::new();
+    put_id(key, &mut bytes);
     id.clear();
     id.extend_from_slice(bytes.as_slice()).unwrap();
     id

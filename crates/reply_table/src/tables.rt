@@ -5,7 +5,7 @@ ghost use Rattle.std.specs.List.{filter, find};
 ghost use Rattle.reply_table.specs.Entries.{found, holder, unanswered, without, joined, unexpired, is_unexpired, entry_at, reply_of, with_reply, IsAfter};
 
 use crate::entries::{Found, Retained, says_same};
-use crate::ids::{ID_LIMIT, id_of};
+use crate::ids::ID_LIMIT;
 use crate::rows::{Rows, answer, holder, index_at, join, purge};
 use ft_base::{Key, NoMemory, Outcome, Request, Tick, Version};
 use indexmap::IndexMap;

@@ -216,6 +216,7 @@ impl Groups {
     }
 
     /// Acts an event at the group at this place.
+    #[inline(always)]
     pub(crate) fn act_at<L: Ledger>(
         &mut self,
         alloc: Global,

@@ -313,6 +313,7 @@ impl World {
     }
 
     /// Sends a message.
+    #[inline(always)]
     pub fn send(&mut self, message: Message) -> Result<(), NoMemory>
         requires { IsOnItsWay self.old.groups message }
         ensures { OnOk result (self.new ≡ with_messages self.old (message ∷ [])) }
@@ -331,6 +332,7 @@ impl World {
     }
 
     /// Acts an event at the group at this place.
+    #[inline(always)]
     pub fn event_at<L: Ledger>(
         &mut self,
         place: usize,

@@ -8,7 +8,7 @@ use Rattle.reply_table.proofs.rows.forget.Goals as goal
 
 pub returns-clause-filtered : goal.returns-clause-filtered
 returns-clause-filtered c =
-    let filed = subst (λ (id : List ℕ). IsFiledBy id c.args.key.now) (sym c.as_slice.ensures.value) c.id_of-id.ensures.filed in
+    let filed = subst (λ (id : List ℕ). IsFiledBy id c.args.key.now) (sym c.as_slice.ensures.value) c.put_id.ensures.filed in
     c.shift_remove.ensures.entries ∙ removed_by_id c.args.key.now c.as_slice.result.now filed c.args.rows.now.entries c.requires c.len-count.ensures.unique
 
 pub returns-clause-values : goal.returns-clause-values

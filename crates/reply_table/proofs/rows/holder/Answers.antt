@@ -9,14 +9,14 @@ use Rattle.reply_table.proofs.rows.holder.Goals.{in_default-via-in-Some+else-is_
 
 pub returns-in-Some : goal.returns-in-Some
 returns-in-Some c =
-    let filed = subst (λ (id : List ℕ). IsFiledBy id c.args.key.now) (sym c.as_slice.ensures.value) c.id_of-id.ensures.filed in
+    let filed = subst (λ (id : List ℕ). IsFiledBy id c.args.key.now) (sym c.as_slice.ensures.value) c.put_id.ensures.filed in
     let by_id = holder_by_id c.args.key.now c.as_slice.result.now filed c.args.now.0 c.args.rows.now.entries c.requires c.len-count.ensures.unique in
     sym (by_id ∙ ap (λ o. option_filter (λ (r : Retained). is_held_by c.args.now.0 c.args.key.now r.request.key) o) (sym c.in-Some.ensures.value)
     ∙ ap (λ b. cond b (Some c.in-Some.entry.now) None) (sym c.if-is_held.ensures))
 
 pub returns-in_default : goal.returns-in_default
 returns-in_default c =
-    let filed = subst (λ (id : List ℕ). IsFiledBy id c.args.key.now) (sym c.as_slice.ensures.value) c.id_of-id.ensures.filed in
+    let filed = subst (λ (id : List ℕ). IsFiledBy id c.args.key.now) (sym c.as_slice.ensures.value) c.put_id.ensures.filed in
     let by_id = holder_by_id c.args.key.now c.as_slice.result.now filed c.args.now.0 c.args.rows.now.entries c.requires c.len-count.ensures.unique in
     let holds = λ (o : Option Retained). option_filter (λ (r : Retained). is_held_by c.args.now.0 c.args.key.now r.request.key) o in
     elim c.in_default.branch [
