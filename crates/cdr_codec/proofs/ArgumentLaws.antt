@@ -180,20 +180,20 @@ values_valid (par ∷ pars) (v ∷ vs) h =
     ((first, values_valid pars vs h.2), refl)
 
 -- the spelling in big endian order of what was read is in the canonical form of its types
-pub formed_spelled : (pars : List Par) (r after : Reader) (args : List ℕ) → AreBytes r.rest → ((params pars).read r >>= formed (params pars)) ≡ Ok (args, after)
+pub formed_spelled : (pars : List Par) (r after : Reader) (args : List ℕ) → AreBytes r.rest → ((params pars).read r >>= formed Big (params pars)) ≡ Ok (args, after)
     → AreSpelledAs pars 0 args
 formed_spelled pars r after args h e =
-    let v = bind_ok ((params pars).read r) (formed (params pars)) (args, after) e in
+    let v = bind_ok ((params pars).read r) (formed Big (params pars)) (args, after) e in
     let t = (params_codec pars).found r v.0 v.1 in
     let typed = are_of pars r.order r.place v.0.0 t.bytes (AreBytes-front t.bytes v.0.1.rest (rw t.moved.is at h)) t.spelled in
     let args-are : (params pars).written Big 0 v.0.0 ≡ args = ap (λ (p : List ℕ × Reader). p.0) (ok_is (with_reader ((params pars).written Big 0 v.0.0) v.0.1) (args, after) v.2) in
     record { values = v.0.0; typed = typed; is = sym args-are ∙ values_written pars v.0.0 0 typed }
 
 -- the canonical form of what was read up to the end
-pub args_are : (pars : List Par) (r after : Reader) (args : List ℕ) → AreBytes r.rest → ((params pars).read r >>= formed (params pars)) ≡ Ok (args, after)
+pub args_are : (pars : List Par) (r after : Reader) (args : List ℕ) → AreBytes r.rest → ((params pars).read r >>= formed Big (params pars)) ≡ Ok (args, after)
     → after.rest ≡ [] → (values_read r pars >>= λ vs. Ok (values_at 0 vs)) ≡ Ok args
 args_are pars r after args h e ended =
-    let v = bind_ok ((params pars).read r) (formed (params pars)) (args, after) e in
+    let v = bind_ok ((params pars).read r) (formed Big (params pars)) (args, after) e in
     let t = (params_codec pars).found r v.0 v.1 in
     let typed = are_of pars r.order r.place v.0.0 t.bytes (AreBytes-front t.bytes v.0.1.rest (rw t.moved.is at h)) t.spelled in
     let pair-is = ok_is (with_reader ((params pars).written Big 0 v.0.0) v.0.1) (args, after) v.2 in

@@ -1,7 +1,7 @@
 -- Parameters that are read from one text and written to another at once.
 use Rattle.std.specs.Prelude.{◌≡◌, ℕ, ◌-◌, List, Result, Ok, Err}
 use Rattle.ft_base.specs.declared.requests.Par.{Par}
-use Rattle.cdr_codec.specs.declared.orders.Order.TheVariants.{Big}
+use Rattle.cdr_codec.specs.declared.orders.Order.{Order}
 use Rattle.cdr_codec.specs.declared.faults.CdrWhy.{CdrWhy}
 use Rattle.cdr_codec.specs.declared.bodies.ArgsFault.{ArgsFault}
 use Rattle.cdr_codec.specs.declared.bodies.ArgsFault.TheVariants as faults
@@ -20,14 +20,14 @@ abbrev pub Copies : {X Y : Type 0} → Format CdrWhy X → Result Y FieldFault �
 Copies f (Ok y) reader reader' writer writer' = copied f reader writer ≡ Ok (writer', reader')
 Copies f (Err e) reader reader' writer writer' = Fails (field_fault e) (f.read reader)
 
--- the spelling of a value that was read in big endian order
-abbrev pub formed : {X : Type 0} → Format CdrWhy X → X × Reader → Read CdrWhy (List ℕ)
-formed f v = Ok (f.written Big 0 v.0, v.1)
+-- the spelling in this order of a value that was read
+abbrev pub formed : {X : Type 0} → Order → Format CdrWhy X → X × Reader → Read CdrWhy (List ℕ)
+formed order f v = Ok (f.written order 0 v.0, v.1)
 
--- the spelling of the value that is read, and the reader behind it
-abbrev pub FormsOf : {X : Type 0} → Format CdrWhy X → Result (List ℕ) FieldFault → Reader → Reader → Type 0
-FormsOf f (Ok bytes) reader reader' = (f.read reader >>= formed f) ≡ Ok (bytes, reader')
-FormsOf f (Err e) reader reader' = Fails (field_fault e) (f.read reader)
+-- the spelling in this order of the value that is read, and the reader behind it
+abbrev pub FormsOf : {X : Type 0} → Order → Format CdrWhy X → Result (List ℕ) FieldFault → Reader → Reader → Type 0
+FormsOf order f (Ok bytes) reader reader' = (f.read reader >>= formed order f) ≡ Ok (bytes, reader')
+FormsOf order f (Err e) reader reader' = Fails (field_fault e) (f.read reader)
 
 abbrev pub OnBad : Result (List ℕ) ArgsFault → (ℕ → Type 0) → Type 0
 OnBad (Ok args) P = Unit {0}

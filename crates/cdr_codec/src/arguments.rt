@@ -1,12 +1,13 @@
 //! Bodies and results, which hold values in any byte order, and their canonical form.
-ghost use Rattle.std.specs.Prelude.{◌≤◌, ◌≡◌, ◌+◌, ◌<◌, ◌^◌, length, IfOk, OnOk, IsOk, Ok};
+ghost use Rattle.std.specs.Prelude.{◌≤◌, ◌≡◌, ◌+◌, ◌<◌, ◌^◌, [], ◌∷◌, length, IfOk, IsOk};
 ghost use Rattle.ft_base.specs.Canonical.{IsCanonical, AreSpelledAs, one_of};
 ghost use Rattle.cdr_codec.specs.Reading.{reader_at};
 ghost use Rattle.cdr_codec.specs.Arguments.{body_reader, params, pars_of, IsFormOf, StopsAt, IsNoBody, reordered, IsReordered};
-ghost use Rattle.cdr_codec.specs.Copies.{copied, Copies, FormsOf, IsArgs, OnBad};
+ghost use Rattle.cdr_codec.specs.Copies.{Copies, FormsOf, IsArgs, OnBad};
 
 use crate::bodies::{ArgsFault, Raw};
-use crate::faults::FieldFault;
+use crate::digits::digits_of_u64;
+use crate::faults::{CdrFault, FieldFault};
 use crate::orders::Order;
 use crate::readers::CdrReader;
 use crate::values::copy_value;
@@ -38,13 +39,46 @@ fn copy_both(
     copy_one(signature.second, reader, writer)
 }
 
+/// The form of one number of 64 bits, by far the most common. So few bytes need no memory, where a
+/// writer's text does. A fault is taken apart, as in `CdrReader`.
+fn number_form(alloc: Global, order: Order, reader: &mut CdrReader) -> Result<Bytes, FieldFault>
+    ensures { FormsOf order (params (Par.I64 ∷ [])) result reader.old reader.new }
+{
+    match reader.read_i64() {
+        Ok(number) => {
+            let form = Bytes::of(alloc, &digits_of_u64(order, number.cast_unsigned()))?;
+            Ok(form)
+        }
+        Err(CdrFault { why, place }) => Err(FieldFault::Bad(CdrFault { why, place })),
+    }
+}
+
+fn one_form(
+    alloc: Global,
+    order: Order,
+    par: Option<Par>,
+    reader: &mut CdrReader,
+) -> Result<Bytes, FieldFault>
+    ensures { FormsOf order (params (one_of par)) result reader.old reader.new }
+{
+    if let Some(Par::I64) = par {
+        return number_form(alloc, order, reader);
+    }
+    let mut writer = CdrWriter::new(alloc, order, 0);
+    copy_one(par, reader, &mut writer)?;
+    Ok(writer.finish())
+}
+
 fn form_of(
     alloc: Global,
     signature: &Signature,
     reader: &mut CdrReader,
 ) -> Result<Bytes, FieldFault>
-    ensures { FormsOf (params (pars_of signature.now)) result reader.old reader.new }
+    ensures { FormsOf Order.Big (params (pars_of signature.now)) result reader.old reader.new }
 {
+    if signature.second.is_none() {
+        return one_form(alloc, Order::Big, signature.first, reader);
+    }
     let mut writer = CdrWriter::new(alloc, Order::Big, 0);
     copy_both(signature, reader, &mut writer)?;
     Ok(writer.finish())
@@ -92,22 +126,6 @@ pub fn args_of(alloc: Global, body: &Raw, signature: &Signature) -> Result<Bytes
     args_in(alloc, body.order, body.align, body.bytes.bytes(), signature)
 }
 
-/// The one that stands there, which can be read.
-fn copy_known(
-    par: Option<Par>,
-    reader: &mut CdrReader,
-    writer: &mut CdrWriter,
-) -> Result<(), NoMemory>
-    requires { IsOk ((params (one_of par)).read reader.old) }
-    ensures { OnOk result (copied (params (one_of par)) reader.old writer.old ≡ Ok (writer.new, reader.new)) }
-{
-    match copy_one(par, reader, writer) {
-        Ok(()) => Ok(()),
-        Err(FieldFault::NoMemory) => Err(NoMemory),
-        Err(FieldFault::Bad(_)) => unreachable!(),
-    }
-}
-
 fn result_exactly(
     alloc: Global,
     order: Order,
@@ -119,9 +137,11 @@ fn result_exactly(
     ensures { IfOk result (λ bytes. bytes ≡ reordered order (one_of gives) value.now) }
 {
     let mut reader = CdrReader::new(Order::Big, 0, value);
-    let mut writer = CdrWriter::new(alloc, order, 0);
-    copy_known(gives, &mut reader, &mut writer)?;
-    Ok(writer.finish())
+    match one_form(alloc, order, gives, &mut reader) {
+        Ok(form) => Ok(form),
+        Err(FieldFault::NoMemory) => Err(NoMemory),
+        Err(FieldFault::Bad(_)) => unreachable!(),
+    }
 }
 
 /// What an operation gave, from its canonical form into this byte order.

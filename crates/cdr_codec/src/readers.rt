@@ -11,6 +11,10 @@ use crate::faults::{CdrFault, CdrWhy};
 use crate::orders::Order;
 use std::marker::Model;
 
+// A fault that is handed on whole, as by `?`, is moved as eight bytes. Beside a number of 64 bits, or a part of
+// the input, these lie across its place, so that neither stays in a register. Where such are read, a fault is
+// taken apart and built again.
+
 /// Reads values from bytes, one behind the other. No call takes memory, and a call that answers a
 /// fault leaves the reader where it was.
 #[derive(Drop)]
@@ -151,8 +155,10 @@ impl<'a> CdrReader<'a> {
         ensures { Reads (λ n. n) (number 1).read result self.old self.new }
     {
         let order = self.order();
-        let digits = self.digits(1)?;
-        Ok(number_of_u8(order, digits))
+        match self.digits(1) {
+            Ok(digits) => Ok(number_of_u8(order, digits)),
+            Err(CdrFault { why, place }) => Err(CdrFault { why, place }),
+        }
     }
 
     /// An unsigned short.
@@ -160,8 +166,10 @@ impl<'a> CdrReader<'a> {
         ensures { Reads (λ n. n) (number 2).read result self.old self.new }
     {
         let order = self.order();
-        let digits = self.digits(2)?;
-        Ok(number_of_u16(order, digits))
+        match self.digits(2) {
+            Ok(digits) => Ok(number_of_u16(order, digits)),
+            Err(CdrFault { why, place }) => Err(CdrFault { why, place }),
+        }
     }
 
     /// An unsigned long.
@@ -169,8 +177,10 @@ impl<'a> CdrReader<'a> {
         ensures { Reads (λ n. n) (number 4).read result self.old self.new }
     {
         let order = self.order();
-        let digits = self.digits(4)?;
-        Ok(number_of_u32(order, digits))
+        match self.digits(4) {
+            Ok(digits) => Ok(number_of_u32(order, digits)),
+            Err(CdrFault { why, place }) => Err(CdrFault { why, place }),
+        }
     }
 
     /// An unsigned long long.
@@ -178,8 +188,6 @@ impl<'a> CdrReader<'a> {
         ensures { Reads (λ n. n) (number 8).read result self.old self.new }
     {
         let order = self.order();
-        // A fault that is handed on whole, as by `?`, is moved as eight bytes that lie across those of the
-        // number, so that neither stays in a register: it is taken apart.
         match self.digits(8) {
             Ok(digits) => Ok(number_of_u64(order, digits)),
             Err(CdrFault { why, place }) => Err(CdrFault { why, place }),
@@ -206,7 +214,6 @@ impl<'a> CdrReader<'a> {
     pub fn read_i64(&mut self) -> Result<i64, CdrFault>
         ensures { Reads (λ n. n) (signed w64).read result self.old self.new }
     {
-        // The fault as in `read_u64`.
         match self.read_u64() {
             Ok(number) => Ok(number.cast_signed()),
             Err(CdrFault { why, place }) => Err(CdrFault { why, place }),
@@ -240,9 +247,13 @@ impl<'a> CdrReader<'a> {
         let place = self.start(4);
         let mut ahead = self.again();
         let count = ahead.read_u32()?;
-        let octets = ahead.take(0, count as usize, place)?;
-        *self = ahead;
-        Ok(octets)
+        match ahead.take(0, count as usize, place) {
+            Ok(octets) => {
+                *self = ahead;
+                Ok(octets)
+            }
+            Err(CdrFault { why, place }) => Err(CdrFault { why, place }),
+        }
     }
 
     /// A string without its NUL: a part of the input.
@@ -253,7 +264,10 @@ impl<'a> CdrReader<'a> {
     {
         let place = self.start(4);
         let mut ahead = self.again();
-        let octets = ahead.read_octets()?;
+        let octets = match ahead.read_octets() {
+            Ok(octets) => octets,
+            Err(CdrFault { why, place }) => return Err(CdrFault { why, place }),
+        };
         match text_in(octets) {
             Some(text) => {
                 *self = ahead;

@@ -18,7 +18,7 @@ pub fn read_value(alloc: Global, par: Par, reader: &mut CdrReader) -> Result<Val
     ensures { Gives (λ value. value) field_fault result ((param par).read reader.old) reader.new }
 {
     match par {
-        // The most common type: its fault is taken apart, as in `CdrReader::read_u64`.
+        // The most common type: its fault is taken apart, as in `CdrReader`.
         Par::I64 => match reader.read_i64() {
             Ok(number) => Ok(Value::I64(number)),
             Err(CdrFault { why, place }) => Err(FieldFault::Bad(CdrFault { why, place })),

@@ -1,5 +1,6 @@
 ghost use Rattle.std.specs.Prelude.{◌≡◌, ◌≤◌, ◌<◌, ◌+◌, ◌^◌, ℕ, List, [], ◌∷◌, ◌++◌, length, replicate, take, slice_get, None, OnOk, OnErr};
 ghost use Rattle.std.specs.Int.{w16, w32, w64};
+ghost use Rattle.std.specs.Option.{option_to_list};
 ghost use Rattle.ft_base.specs.Canonical.{padding};
 ghost use Rattle.ft_base.specs.Text.{zero_place};
 ghost use Rattle.cdr_codec.specs.Formats.{number, octets, written_piece};
@@ -53,27 +54,28 @@ fn put_digits(text: &mut Vec<u8>, skip: usize, digits: &[u8]) -> Result<(), NoMe
     Ok(())
 }
 
-/// A field of the text: zeros, then the digits of a number, then octets and what ends them.
+/// A field of the text: zeros, then the digits of a number, then octets and the one that may end them.
 fn put(
     text: &mut Vec<u8>,
     skip: usize,
     digits: &[u8],
     octets: &[u8],
-    ending: &[u8],
+    ending: Option<u8>,
 ) -> Result<(), NoMemory>
     requires skips { skip ≤ 8 }
     requires numbers { length digits.now ≤ 8 }
     requires counts { length octets.now < 2 ^ 32 }
-    requires ends { length ending.now ≤ 1 }
-    ensures written { OnOk result (text.new.items ≡ text.old.items ++ replicate skip 0 ++ digits.now ++ octets.now ++ ending.now) }
+    ensures written { OnOk result (text.new.items ≡ text.old.items ++ replicate skip 0 ++ digits.now ++ octets.now ++ option_to_list ending) }
     ensures left { OnErr result (text.new.items ≡ text.old.items) }
 {
-    text.reserve(skip + digits.len() + octets.len() + ending.len())?;
+    text.reserve(skip + digits.len() + octets.len() + usize::from(ending.is_some()))?;
     let field = padded(skip, digits);
     text.extend_from_slice(&field[..skip + digits.len()])
         .unwrap();
     text.extend_from_slice(octets).unwrap();
-    text.extend_from_slice(ending).unwrap();
+    if let Some(octet) = ending {
+        text.push(octet).unwrap();
+    }
     Ok(())
 }
 
@@ -154,14 +156,13 @@ impl CdrWriter {
         size: usize,
         digits: &[u8],
         octets: &[u8],
-        ending: &[u8],
+        ending: Option<u8>,
     ) -> Result<(), NoMemory>
         requires some { 0 < size }
         requires small { size ≤ 8 }
         requires numbers { length digits.now ≤ 8 }
         requires counts { length octets.now < 2 ^ 32 }
-        requires ends { length ending.now ≤ 1 }
-        ensures written { OnOk result (self.new ≡ record self.old { text = self.old.text ++ replicate (padding (self.old.place + length self.old.text) size) 0 ++ digits.now ++ octets.now ++ ending.now }) }
+        ensures written { OnOk result (self.new ≡ record self.old { text = self.old.text ++ replicate (padding (self.old.place + length self.old.text) size) 0 ++ digits.now ++ octets.now ++ option_to_list ending }) }
         ensures left { OnErr result (self.new ≡ self.old) }
     {
         let skip = self.skip(size);
@@ -254,7 +255,7 @@ impl CdrWriter {
         ensures left { OnErr result (self.new ≡ self.old) }
     {
         let digits = digits_of_u32(self.order(), content.len() as u32);
-        self.put(4, &digits, content, &[])
+        self.put(4, &digits, content, None)
     }
 
     /// A string, which is given without its NUL.
@@ -265,7 +266,7 @@ impl CdrWriter {
         ensures left { OnErr result (self.new ≡ self.old) }
     {
         let digits = digits_of_u32(self.order(), string.len() as u32 + 1);
-        self.put(4, &digits, string, &[0])
+        self.put(4, &digits, string, Some(0))
     }
 
     /// Bytes without a count, at a multiple of `align`: the body of a message, or what another writer
@@ -277,7 +278,7 @@ impl CdrWriter {
         ensures written { OnOk result (self.new ≡ appended (written_piece align) piece.now self.old) }
         ensures left { OnErr result (self.new ≡ self.old) }
     {
-        self.put(align, &[], piece, &[])
+        self.put(align, &[], piece, None)
     }
 
     /// An encapsulation: what another writer wrote, which began at place 0 with the octet of its own
