@@ -8,3 +8,4 @@ pub mod LineLemmas
 pub mod OptionLemmas
 pub mod ArgumentLemmas
 pub mod SplitLemmas
+pub mod CommentLemmas

@@ -14,7 +14,7 @@ use crate::forms::{
 use crate::lines::{LimitName, Line, LineFault};
 use crate::monitors::{read_poll, read_pull, read_subscribe, read_sweep, read_unsubscribe};
 use crate::settings::{read_get, read_set, read_unset};
-use crate::splitting::{is_comment, split_first, split_words};
+use crate::splitting::{LineWords, is_comment, split_first, split_words};
 use crate::transfers::{read_checkpoint, read_update};
 use crate::verbs::{Verb, find_verb, is_unbuilt};
 use std::alloc::Global;
@@ -85,10 +85,13 @@ fn read_text(alloc: Global, text: &[u8]) -> Result<Option<Line>, LineFault>
     if text.len() > LINE_LIMIT {
         return Err(LineFault::Limit(LimitName::Line));
     }
-    match split_words(alloc, text) {
-        Ok(words) => read_words(alloc, words.as_slice()),
-        Err(_) => Err(LineFault::NoMemory),
+    // Most comments are told by their first byte, and not divided into words.
+    if is_comment(text) {
+        return Ok(None);
     }
+    let mut words = LineWords::new(alloc);
+    split_words(text, &mut words)?;
+    read_words(alloc, words.as_slice())
 }
 
 /// Reads a line of a script, without its end. `None`: nothing stands in it, or a comment does. A line is

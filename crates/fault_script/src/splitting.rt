@@ -6,10 +6,13 @@ ghost use Rattle.fault_script.specs.Words.{is_blank, is_filled, words, is_commen
 
 use ft_base::NoMemory;
 use memchr::memchr3;
-use std::alloc::Global;
+use smallvec::SmallVec;
 
 /// The longest name of a group or of a client, in bytes.
 const SCRIPT_NAME_LIMIT: usize = 64;
+
+/// As many words as most lines have at most.
+const FEW_WORDS: usize = 6;
 
 fn first_blank(line: &[u8]) -> Option<usize>
     ensures place { IsFirstByte is_blank line.now result }
@@ -39,8 +42,11 @@ fn cut(line: &[u8]) -> Option<(&[u8], &[u8])>
     }
 }
 
+/// The words of a line. The words of most lines take no memory.
+pub(crate) type LineWords<'a> = SmallVec<&'a [u8], FEW_WORDS>;
+
 // Between two blanks side by side there is no word.
-fn push_filled<'a>(words: &mut Vec<&'a [u8]>, word: &'a [u8]) -> Result<(), NoMemory>
+fn push_filled<'a>(words: &mut LineWords<'a>, word: &'a [u8]) -> Result<(), NoMemory>
     ensures { OnOk result (texts words.new.items ≡ texts words.old.items ++ filter is_filled (word.now ∷ [])) }
 {
     if !word.is_empty() {
@@ -49,18 +55,17 @@ fn push_filled<'a>(words: &mut Vec<&'a [u8]>, word: &'a [u8]) -> Result<(), NoMe
     Ok(())
 }
 
-/// The words of a line, in order.
-pub(crate) fn split_words(alloc: Global, line: &[u8]) -> Result<Vec<&[u8]>, NoMemory>
-    ensures { IfOk result (λ v. texts v.items ≡ words line.now) }
+/// Finds the words of a line, in order.
+pub(crate) fn split_words<'a>(line: &'a [u8], found: &mut LineWords<'a>) -> Result<(), NoMemory>
+    requires empty { found.old.items ≡ [] }
+    ensures { OnOk result (texts found.new.items ≡ words line.now) }
 {
-    let mut found = Vec::new(alloc);
     let mut rest = line;
     'words: while let Some((word, behind)) = cut(rest) {
-        push_filled(&mut found, word)?;
+        push_filled(found, word)?;
         rest = behind;
     }
-    push_filled(&mut found, rest)?;
-    Ok(found)
+    push_filled(found, rest)
 }
 
 /// Whether a line that begins with this word is a comment.
