@@ -100,15 +100,16 @@ below_answered n position outcome (e ∷ table) h =
 
 -- ---- the calls
 
-pub sound_appended : (newest : View) (earlier : List View) (mark entries : ℕ) (table : List Retained) (e : Retained) (key : Option Key)
-    → IsSound newest earlier mark entries table → mark + entries < JOURNAL_LIMIT → e.position ≡ mark + entries
-    → IsSound newest earlier mark (entries + 1) (joined table e key)
-sound_appended newest earlier mark entries table e key s room is = record {
+pub sound_appended : (newest : View) (earlier : List View) (mark entries next : ℕ) (table after : List Retained) (e : Retained) (key : Option Key)
+    → IsSound newest earlier mark entries table → mark + entries < JOURNAL_LIMIT → e.position ≡ mark + entries → next ≡ entries + 1 → after ≡ joined table e key
+    → IsSound newest earlier mark next after
+sound_appended newest earlier mark entries next table after e key s room is one put = record {
   numbered = s.numbered;
   first = s.first;
   last = s.last;
-  fits = omega (arith, room);
-  positions = below_joined (mark + (entries + 1)) table e key (below (mark + entries) (mark + (entries + 1)) table (omega arith) s.positions) (omega (arith, is));
+  fits = omega (arith, room, one);
+  positions = subst (AllByRecursion (λ (d : Retained). d.position < mark + next)) (sym put)
+      (below_joined (mark + next) table e key (below (mark + entries) (mark + next) table (omega (arith, one)) s.positions) (omega (arith, is, one)));
 }
 
 numbered_viewed : (earlier : List View) (newest : View) (next : ℕ) → AreNumbered earlier newest.version.0 → next ≡ newest.version.0 + 1
@@ -152,23 +153,16 @@ sound_answered newest earlier mark entries position outcome table s = record {
 pub some_is : {X : Type 0} (x y : X) → Some x ≡ Some y → x ≡ y
 some_is x y h = cc
 
-pub ready_none : (position time : ℕ) (reserved : Option Reservation) (room : Type 0) → reserved ≡ None → IsReady position time reserved room
-ready_none position time reserved room is = subst (λ (o : Option Reservation). IsReady position time o room) (sym is) tt
-
-pub ready_some : (position time : ℕ) (reserved : Option Reservation) (taken : Reservation) (room : Type 0) → reserved ≡ Some taken
-    → IsReady position time reserved room → IsReady position time (Some taken) room
-ready_some position time reserved taken room is h = subst (λ (o : Option Reservation). IsReady position time o room) is h
+pub ready_none : (reserved : Option Reservation) (spare entries entries_room : ℕ) (table_room : Bool) → reserved ≡ None
+    → IsReady reserved spare entries entries_room table_room
+ready_none reserved spare entries entries_room table_room is =
+    subst (λ (o : Option Reservation). IsReady o spare entries entries_room table_room) (sym is) tt
 
 -- it is what the caller says
 pub taken_is : (reserved : Option Reservation) (taken : Reservation) (wanted : Reserved) → reserved ≡ Some taken → reserved_of reserved ≡ Some wanted
-    → record { version = taken.version; clock = taken.clock; request = taken.request } ≡ wanted
+    → record { entry = taken.record; retained = taken.retained } ≡ wanted
 taken_is reserved taken wanted is h =
-    some_is (record { version = taken.version; clock = taken.clock; request = taken.request }) wanted (sym (ap reserved_of is) ∙ h)
-
--- the room for the next entry's reply doesn't depend on the replies
-pub ready_elsewhere : (position time : ℕ) (reserved : Option Reservation) (room other : Type 0) → (room → other) → IsReady position time reserved room → IsReady position time reserved other
-ready_elsewhere position time None room other f h = tt
-ready_elsewhere position time (Some r) room other f h = (h.0, f h.1)
+    some_is (record { entry = taken.record; retained = taken.retained }) wanted (sym (ap reserved_of is) ∙ h)
 
 -- ---- a log that is read
 

@@ -3,6 +3,7 @@ use Rattle.std.specs.Prelude.{◌≡◌, ℕ, ◌<◌, max, Bool, true, false, L
 use Rattle.ft_base.specs.declared.limits.TheConstants.{VIEW_LIMIT}
 use Rattle.ft_base.specs.declared.numbers.Tick.{Tick}
 use Rattle.ft_base.specs.declared.numbers.Version.{Version}
+use Rattle.ft_base.specs.declared.requests.Key.{Key}
 use Rattle.ft_base.specs.declared.requests.Outcome.{Outcome}
 use Rattle.ft_base.specs.declared.requests.Request.{Request}
 use Rattle.ft_base.specs.declared.views.View.{View}
@@ -12,7 +13,7 @@ use Rattle.reply_table.specs.Entries.{unanswered, joined, unexpired, with_reply}
 use Rattle.log_records.specs.Records.{entry_record, view_record, checkpoint_record}
 use Rattle.log_records.specs.declared.records.Accepted.{Accepted}
 use Rattle.log_records.specs.declared.records.Checkpoint.{Checkpoint}
-use Rattle.message_log.specs.Picture.{Picture, Reserved, length_of}
+use Rattle.message_log.specs.Picture.{Picture, Reserved, HasRoom, length_of}
 use Rattle.message_log.specs.declared.answers.Appended.{Appended}
 use Rattle.message_log.specs.declared.answers.Appended.TheVariants.{At, Failed}
 use Rattle.message_log.specs.declared.answers.LogFault.{LogFault}
@@ -23,16 +24,14 @@ use Rattle.message_log.specs.declared.tidying.Tidied.TheVariants.{Cut, Uncut, Un
 
 -- ---- what was reserved
 
--- what was reserved, with its record
 abbrev pub reserved_of : Option Reservation → Option Reserved
 reserved_of None = None
-reserved_of (Some r) = Some (record { version = r.version; clock = r.clock; request = r.request })
+reserved_of (Some r) = Some (record { entry = r.record; retained = r.retained })
 
--- where memory was taken, the record is made, and there is room
-abbrev pub IsReady : ℕ → ℕ → Option Reservation → Type 0 → Type 0
-IsReady position time None room = Unit {0}
-IsReady position time (Some r) room =
-    (r.record ≡ entry_record (record { position = position; version = r.version; at = record { 0 = max r.clock.0 time }; request = r.request })) × room
+-- where memory was taken, there is room
+abbrev pub IsReady : Option Reservation → ℕ → ℕ → ℕ → Bool → Type 0
+IsReady None spare entries entries_room table_room = Unit {0}
+IsReady (Some r) spare entries entries_room table_room = HasRoom r.retained spare entries entries_room table_room
 
 -- ---- a writing call leaves of the keeper
 
@@ -72,6 +71,16 @@ IsStarted v before records plan plan_now faults now (Err log_faults.NoMemory) =
 abbrev pub accepted_by : Picture → Version → Tick → Request → Accepted
 accepted_by log version clock request =
     record { position = length_of log; version = version; at = record { 0 = max clock.0 log.time }; request = request }
+
+-- a request without a key isn't retained
+abbrev pub retained_of : Request → Option Key → Option Request
+retained_of request None = None
+retained_of request (Some key) = Some request
+
+-- what one entry takes: its record, and the request where it is to be retained
+abbrev pub reserved_for : Picture → Version → Tick → Request → Reserved
+reserved_for log version clock request =
+    record { entry = entry_record (accepted_by log version clock request); retained = retained_of request request.key }
 
 abbrev pub with_entry : Picture → Version → Tick → Request → Picture
 with_entry log version clock request =

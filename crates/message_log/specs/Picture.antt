@@ -5,17 +5,14 @@ use Rattle.ft_base.specs.Journal.{Entry}
 use Rattle.ft_base.specs.Members.{is_member}
 use Rattle.ft_base.specs.declared.limits.TheConstants.{HOST_LIMIT, VIEW_LIMIT, JOURNAL_LIMIT}
 use Rattle.ft_base.specs.declared.numbers.HostNo.{HostNo}
-use Rattle.ft_base.specs.declared.numbers.Tick.{Tick}
-use Rattle.ft_base.specs.declared.numbers.Version.{Version}
 use Rattle.ft_base.specs.declared.requests.Request.{Request}
 use Rattle.ft_base.specs.declared.views.View.{View}
 use Rattle.reply_table.specs.declared.entries.Retained.{Retained}
 
--- the request for which memory was taken, with the version and the clock of its writer
+-- what memory was taken for: the record of an entry, and its request where it is to be retained
 pub record Reserved : Type 0 where
-  pub version : Version
-  pub clock : Tick
-  pub request : Request
+  pub entry : List ℕ
+  pub retained : Option Request
 
 pub record Picture : Type 0 where
   -- the newest view, and those before it in order of version
@@ -70,7 +67,7 @@ pub record IsLogged (view : View) : Type 0 where
 -- ---- what is true of every log
 
 -- Views are numbered up to the newest; positions fit, and the newest version does; retained entries are the
--- journal's; where memory was taken, there is room for one more of each.
+-- journal's.
 pub record IsSound (newest : View) (earlier : List View) (mark entries : ℕ) (table : List Retained) : Type 0 where
   pub numbered : AreNumbered earlier newest.version.0
   pub first : length earlier < newest.version.0
@@ -78,7 +75,13 @@ pub record IsSound (newest : View) (earlier : List View) (mark entries : ℕ) (t
   pub fits : mark + entries ≤ JOURNAL_LIMIT
   pub positions : AllByRecursion (λ e. e.position < mark + entries) table
 
-pub record HasRoom (spare entries entries_room : ℕ) (table_room : Bool) : Type 0 where
+-- a table has room for what is to be retained
+abbrev pub HasRow : Option Request → Bool → Type 0
+HasRow None table_room = Unit {0}
+HasRow (Some request) table_room = table_room ≡ true
+
+-- There is room for one more record and one more entry, and for what is to be retained.
+pub record HasRoom (retained : Option Request) (spare entries entries_room : ℕ) (table_room : Bool) : Type 0 where
   pub record_room : 0 < spare
   pub entry_room : entries < entries_room
-  pub row_room : table_room ≡ true
+  pub row_room : HasRow retained table_room

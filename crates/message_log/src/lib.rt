@@ -29,6 +29,7 @@ mod laws;
 mod logs;
 mod opening;
 mod reservations;
+mod retaining;
 mod tidying;
 
 pub use answers::{Admit, Appended, LogFault, ReopenFault};

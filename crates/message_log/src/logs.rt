@@ -3,12 +3,13 @@ ghost use Rattle.ft_outside.specs.Keeping.{failing_next, plan_after, IsForetold}
 ghost use Rattle.message_log.specs.Picture.{length_of, request_at, view_at, AreNumbered, IsLogged};
 ghost use Rattle.message_log.specs.Admission.{admitted};
 ghost use Rattle.message_log.specs.Opening.{content_of, IsReopened, IsBad};
-ghost use Rattle.message_log.specs.Calls.{fresh, IsStarted, IsAppended, IsViewed, IsCheckpointed, with_outcome};
+ghost use Rattle.message_log.specs.Calls.{fresh, reserved_for, IsStarted, IsAppended, IsViewed, IsCheckpointed, with_outcome};
 
 use crate::answers::{Admit, Appended, LogFault, ReopenFault};
 use crate::entries::Entry;
 use crate::opening::{Opening, read_all};
 use crate::reservations::Reservation;
+use crate::retaining::{copy_retained, put_retained, reserve_retained};
 use crate::tidying::tidy;
 use ft_base::{Bytes, JOURNAL_LIMIT, NoMemory, Outcome, Request, Tick, VIEW_LIMIT, Version, View};
 use ft_outside::{Keeper, Kept, MemKeeper};
@@ -37,7 +38,7 @@ pub struct Log<K: Keeper> {
 
 impl<K: Keeper> Model for Log<K> {
     ghost use Rattle.std.specs.Prelude.{◌≡◌, ◌+◌, ◌<◌, ◌≤◌, length, vec_len, vec_capacity};
-    ghost use Rattle.message_log.specs.Picture.{Picture, IsSound, HasRoom};
+    ghost use Rattle.message_log.specs.Picture.{Picture, IsSound};
     ghost use Rattle.message_log.specs.Calls.{reserved_of, IsReady};
 
     ghost Value = { Picture };
@@ -45,7 +46,7 @@ impl<K: Keeper> Model for Log<K> {
     ghost view = { λ l. record { newest = l.newest; earlier = l.earlier.items; mark = l.mark; entries = l.entries.items; time = l.time.0; state = l.state; table = l.table.entries; reserved = reserved_of l.reserved; records = K.records l.keeper; plan = K.plan l.keeper; faults = K.faults l.keeper } };
 
     ghost invariant = { λ l. IsSound l.newest l.earlier.items l.mark (vec_len l.entries) l.table.entries
-        × IsReady (l.mark + vec_len l.entries) l.time.0 l.reserved (HasRoom (K.spare l.keeper) (vec_len l.entries) (vec_capacity l.entries) l.table.room) };
+        × IsReady l.reserved (K.spare l.keeper) (vec_len l.entries) (vec_capacity l.entries) l.table.room };
 }
 
 /// Pushes where there is room.
@@ -260,9 +261,9 @@ impl<K: Keeper> Log<K> {
         }
     }
 
-    /// Takes the memory of one entry: its record, room in the keeper, and room for the entry and its
-    /// reply. There is none for a version that no view can have, nor for a request that is too long
-    /// for a record.
+    /// Takes the memory of one entry: its record, room in the keeper, and room for the entry; where the
+    /// request has a key, also its copy that is retained, and room for that. There is none for a version
+    /// that no view can have, nor for a request that is too long for a record.
     pub fn reserve(
         &mut self,
         alloc: Global,
@@ -270,7 +271,7 @@ impl<K: Keeper> Log<K> {
         clock: Tick,
         request: &Request,
     ) -> Result<(), NoMemory>
-        ensures ok { OnOk result (self.new ≡ record self.old { reserved = Some (record { version = version; clock = clock; request = request.now }) }) }
+        ensures ok { OnOk result (self.new ≡ record self.old { reserved = Some (reserved_for self.old version clock request.now) }) }
         ensures possible { OnOk result (version.0 ≤ VIEW_LIMIT) }
         ensures left { OnErr result (self.new ≡ self.old) }
     {
@@ -280,23 +281,18 @@ impl<K: Keeper> Log<K> {
         let position = self.length();
         let at = Tick(clock.0.max(self.time.0));
         let record = entry_record(alloc, position, version, at, request)?;
-        let request = request.copy(alloc)?;
+        let retained = copy_retained(alloc, request)?;
         self.keeper.reserve(alloc, 1)?;
         self.entries.reserve(1)?;
-        self.table.reserve()?;
-        self.reserved = Some(Reservation {
-            version,
-            clock,
-            request,
-            record,
-        });
+        reserve_retained(&mut self.table, &retained)?;
+        self.reserved = Some(Reservation { record, retained });
         Ok(())
     }
 
     /// Appends a request that is new, for which memory was taken since the last write. It takes none.
     #[tactic(auto, using(crate::proofs::PictureLaws::new_has_room, crate::proofs::PictureLaws::sound_appended))]
     pub fn append_reserved(&mut self, version: Version, clock: Tick, request: Request) -> Appended
-        requires reserved { self.old.reserved ≡ Some (record { version = version; clock = clock; request = request }) }
+        requires reserved { self.old.reserved ≡ Some (reserved_for self.old version clock request) }
         requires new { admitted self.old version.0 clock.0 request ≡ Admit.New }
         ensures { IsAppended self.old version clock request result self.new }
     {
@@ -308,8 +304,7 @@ impl<K: Keeper> Log<K> {
         match self.keeper.append(taken.record) {
             Kept::Failed => Appended::Failed,
             Kept::Done => {
-                self.table
-                    .put_reserved(position, version, at, taken.request);
+                put_retained(&mut self.table, position, version, at, taken.retained);
                 push_within(&mut self.entries, Entry::new(at, request));
                 self.time = at;
                 Appended::At(position)

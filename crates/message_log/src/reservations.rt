@@ -1,10 +1,9 @@
-use ft_base::{Bytes, Request, Tick, Version};
+use ft_base::{Bytes, Request};
 
-/// What memory was taken for: the request of a writer, and its record.
+/// What memory was taken for: the record of an entry, and a copy of its request where it is to be
+/// retained.
 #[derive(Drop)]
 pub(crate) struct Reservation {
-    pub(crate) version: Version,
-    pub(crate) clock: Tick,
-    pub(crate) request: Request,
     pub(crate) record: Bytes,
+    pub(crate) retained: Option<Request>,
 }

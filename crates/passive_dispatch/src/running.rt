@@ -16,6 +16,7 @@ use std::sync::ledger::Ledger;
 use sys_faults::Answer;
 
 /// Runs the entry at the replica's position, sets its reply, and gives it.
+#[inline(always)]
 fn run_next<K: Keeper, S: Servant + Drop, L: Ledger>(
     alloc: Global,
     log: &mut Log<K>,
@@ -51,6 +52,7 @@ fn run_next<K: Keeper, S: Servant + Drop, L: Ledger>(
 
 /// Runs the request that has just joined, unless the host stops before that. A host that stops, or
 /// finds no memory, forgets what it ran.
+#[inline(always)]
 pub(crate) fn run_joined<K: Keeper, S: Servant + Drop, L: Ledger>(
     alloc: Global,
     log: &mut Log<K>,

@@ -76,6 +76,7 @@ fn repeat<K: Keeper>(alloc: Global, log: &Log<K>, position: u32) -> Served
 }
 
 /// Writes a new request, and then runs it. Memory for its entry is taken before.
+#[inline(always)]
 fn accept<K: Keeper, S: Servant + Drop, L: Ledger>(
     alloc: Global,
     log: &mut Log<K>,

@@ -1,5 +1,6 @@
 use Rattle.std.proofs.Common.{Some, sym, refl}
 use Rattle.message_log.specs.declared.answers.Admit.TheVariants as admits
+use Rattle.message_log.specs.Calls.{reserved_for}
 use Rattle.passive_dispatch.specs.Served.{seen}
 use Rattle.passive_dispatch.proofs.Serves.{says, has_joined, position_is, new_served}
 use Rattle.passive_dispatch.proofs.serving.accept.Goals as goal
@@ -8,7 +9,7 @@ pub run_joined-requires : goal.run_joined-requires
 run_joined-requires g c =
     let machines = g.S.Servant.machine in
     let r = c.requires in
-    let reserved = Some (record { version = c.args.version; clock = c.args.clock; request = c.args.request }) in
+    let reserved = Some (reserved_for c.args.log.now c.args.version c.args.clock c.args.request) in
     let has = has_joined c.logs_go_on.ensures.beside c.logs_go_on.ensures.joined c.repeats_are_answered.ensures.run machines r.0 r.1 c.args.version c.args.clock c.args.request
     (seen c.args.log.now c.args.replica.now c.args.steps.now) c.reserve.new.self c.append_reserved.new.self reserved r.2 r.3 c.in_default.ensures.ok c.in-At.ensures.2 in
     let at = position_is machines r.0 c.reserve.new.self c.args.log.now reserved c.in-At.position c.in_default.ensures.ok
@@ -19,7 +20,7 @@ pub returns-in-At-clause-served : goal.returns-in-At-clause-served
 returns-in-At-clause-served g c = λ common h host can new.
     let machines = g.S.Servant.machine in
     let before = seen c.args.log.now c.args.replica.now c.args.steps.now in
-    let reserved = Some (record { version = c.args.version; clock = c.args.clock; request = c.args.request }) in
+    let reserved = Some (reserved_for c.args.log.now c.args.version c.args.clock c.args.request) in
     let has = has_joined c.logs_go_on.ensures.beside c.logs_go_on.ensures.joined c.repeats_are_answered.ensures.run machines common h.place c.args.version c.args.clock c.args.request
     before c.reserve.new.self c.append_reserved.new.self reserved can new c.in_default.ensures.ok c.in-At.ensures.2 in
     let at = position_is machines common c.reserve.new.self c.args.log.now reserved c.in-At.position c.in_default.ensures.ok

@@ -2,8 +2,7 @@ use Rattle.std.proofs.Common.{List, ap, subst, sym, Bool}
 use Rattle.std.specs.Prelude.{vec_len, vec_capacity}
 use Rattle.reply_table.specs.Entries.{Table}
 use Rattle.reply_table.specs.declared.entries.Retained.{Retained}
-use Rattle.message_log.specs.Picture.{IsSound, HasRoom}
-use Rattle.std.proofs.Common.{◌+◌}
+use Rattle.message_log.specs.Picture.{IsSound}
 use Rattle.message_log.specs.Calls.{IsReady}
 use Rattle.message_log.proofs.PictureLaws.{sound_answered}
 use Rattle.message_log.proofs.logs.Log.set_reply.Goals as goal
@@ -15,6 +14,6 @@ invariant_of-self g c =
     let room = ap (λ (t : Table). t.room) c.set_reply.ensures in (
       subst (λ (rs : List Retained). IsSound l.newest l.earlier.items l.mark (vec_len l.entries) rs) (sym entries)
           (sound_answered l.newest l.earlier.items l.mark (vec_len l.entries) c.args.position c.args.outcome l.table.entries c.self.invariant.0),
-      subst (λ (b : Bool). IsReady (l.mark + vec_len l.entries) l.time.0 l.reserved (HasRoom (g.K.Keeper.spare l.keeper) (vec_len l.entries) (vec_capacity l.entries) b)) (sym room)
+      subst (λ (b : Bool). IsReady l.reserved (g.K.Keeper.spare l.keeper) (vec_len l.entries) (vec_capacity l.entries) b) (sym room)
           c.self.invariant.1,
     )
