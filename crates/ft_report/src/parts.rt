@@ -1,7 +1,7 @@
 //! The parts of a line: words and phrases, each as its text.
 ghost use Rattle.std.specs.Prelude.{◌≡◌, ◌++◌, ◌∷◌, [], IfOk, OnOk};
 ghost use Rattle.ft_report.specs.Words.{octets_text, phrase_text};
-ghost use Rattle.ft_report.specs.Report.{completed_text, decision_text, end_text, fault_text, flag_text, ignored_text, kind_text, outcome_text, own_fault, refusal_text, role_text, setting_text, standing_text, subscribe_text, why_text, with_number, with_numbers, with_version, worded_numbers, worth_text};
+ghost use Rattle.ft_report.specs.Report.{completed_text, decision_text, end_text, fault_text, ignored_text, kind_text, outcome_text, own_fault, refusal_text, role_text, setting_text, standing_text, subscribe_text, why_text, with_number, with_numbers, with_version, worded_numbers, worth_text};
 
 use crate::outcomes::{ReportOutcome, Worth};
 use crate::reports::{CallEnd, Role, SettingFault, Standing, SubscribeFault};
@@ -12,12 +12,6 @@ use giop_messages::Why;
 use group_model::ManageFault;
 use std::alloc::Global;
 use sys_faults::{Completed, SysFault, SysKind};
-
-fn flag_bytes(flag: bool) -> &'static [u8]
-    ensures { result.now ≡ flag_text flag }
-{
-    if flag { b"true" } else { b"false" }
-}
 
 fn completed_bytes(completed: Completed) -> &'static [u8]
     ensures { result.now ≡ completed_text completed }
@@ -74,7 +68,8 @@ fn push_worth(text: &mut Vec<u8>, alloc: Global, worth: &Worth) -> Result<(), No
     match worth {
         Worth::Void => push_phrase(text, &[Fixed(b"void")]),
         Worth::Number(number) => push_signed(text, *number),
-        Worth::Flag(flag) => push_phrase(text, &[Fixed(flag_bytes(*flag))]),
+        Worth::Flag(true) => push_phrase(text, &[Fixed(b"true")]),
+        Worth::Flag(false) => push_phrase(text, &[Fixed(b"false")]),
         Worth::Octets(bytes) => push_octets(text, alloc, bytes),
     }
 }
@@ -144,13 +139,6 @@ fn push_version(
     )
 }
 
-fn push_value(text: &mut Vec<u8>, alloc: Global, worth: &Worth) -> Result<(), NoMemory>
-    ensures { OnOk result (text.new.items ≡ text.old.items ++ outcome_text (ReportOutcome.Value worth.now)) }
-{
-    text.extend_from_slice(b"value ")?;
-    push_worth(text, alloc, worth)
-}
-
 /// Writes what a request came to.
 pub fn push_outcome(
     text: &mut Vec<u8>,
@@ -160,7 +148,10 @@ pub fn push_outcome(
     ensures { OnOk result (text.new.items ≡ text.old.items ++ outcome_text shown.now) }
 {
     match shown {
-        ReportOutcome::Value(worth) => push_value(text, alloc, worth),
+        ReportOutcome::Value(worth) => {
+            text.extend_from_slice(b"value ")?;
+            push_worth(text, alloc, worth)
+        }
         ReportOutcome::User(name) => push_phrase(text, &[Fixed(b"user"), Text(name.bytes())]),
         ReportOutcome::System(fault) => push_fault(text, alloc, fault),
         ReportOutcome::Forward { group, version } => push_version(

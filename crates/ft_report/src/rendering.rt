@@ -1,6 +1,6 @@
-ghost use Rattle.std.specs.Prelude.{◌≡◌, ◌∷◌, [], codes, decimal, ◌++◌, map, IfOk, OnOk};
+ghost use Rattle.std.specs.Prelude.{◌≡◌, ◌∷◌, [], codes, decimal, ◌++◌, IfOk, OnOk};
 ghost use Rattle.std.specs.List.{flat_map};
-ghost use Rattle.ft_report.specs.Words.{line, phrase_text, word_text};
+ghost use Rattle.ft_report.specs.Words.{line};
 ghost use Rattle.ft_report.specs.Report.{between_hosts, report_text};
 
 use crate::outcomes::ReportOutcome;
@@ -14,22 +14,11 @@ use crate::showing::{
 };
 use crate::transfers::{checkpoint_line, updated_line};
 use crate::words::Word::{Fixed, Host, Location, Made, Number, Text};
-use crate::words::{
-    Word, hosts, octets, phrase, push_line, push_named, push_numbered, push_phrase,
-};
+use crate::words::{hosts, octets, phrase, push_line, push_named, push_numbered};
 use ft_base::{Bytes, Decision, GroupId, HostNo, Ignored, Members, Name, NoMemory, Version};
 use giop_messages::Why;
 use group_model::ManageFault;
 use std::alloc::Global;
-
-// Writes the words at the front of a line, with a space behind each.
-fn push_front(text: &mut Vec<u8>, words: &[Word]) -> Result<(), NoMemory>
-    ensures { OnOk result (text.new.items ≡ text.old.items ++ (phrase_text (map word_text words.now) ++ 32 ∷ [])) }
-{
-    push_phrase(text, words)?;
-    text.push(b' ')?;
-    Ok(())
-}
 
 // Ends a line.
 fn end_line(text: &mut Vec<u8>) -> Result<(), NoMemory>
@@ -162,41 +151,9 @@ fn attempt_line(
     )
 }
 
-// Writes the words of a reply, up to its id.
-fn push_replying(
-    text: &mut Vec<u8>,
-    message: u64,
-    host: HostNo,
-    client: &Name,
-    id: u32,
-) -> Result<(), NoMemory>
-    ensures { OnOk result (text.new.items ≡ text.old.items ++ phrase_text
-        (codes "msg" ∷ decimal message ∷ codes "host" ∷ decimal host.0 ∷ codes "to client" ∷ client.now ∷ codes "reply" ∷ decimal id ∷ [])) }
-{
-    push_numbered(text, b"msg ", message)?;
-    push_numbered(text, b" host ", u64::from(host.0))?;
-    push_named(text, b" to client ", client)?;
-    push_numbered(text, b" reply ", u64::from(id))
-}
-
-// The same, and the space before what the request came to.
-fn push_reply(
-    text: &mut Vec<u8>,
-    message: u64,
-    host: HostNo,
-    client: &Name,
-    id: u32,
-) -> Result<(), NoMemory>
-    ensures { OnOk result (text.new.items ≡ text.old.items ++ (phrase_text
-        (codes "msg" ∷ decimal message ∷ codes "host" ∷ decimal host.0 ∷ codes "to client" ∷ client.now ∷ codes "reply" ∷ decimal id ∷ []) ++ 32 ∷ [])) }
-{
-    push_replying(text, message, host, client, id)?;
-    text.push(b' ')?;
-    Ok(())
-}
-
+/// Writes the line of a reply.
 #[inline(never)]
-fn reply_line(
+pub fn reply_line(
     text: &mut Vec<u8>,
     alloc: Global,
     message: u64,
@@ -207,23 +164,18 @@ fn reply_line(
 ) -> Result<(), NoMemory>
     ensures { OnOk result (text.new.items ≡ text.old.items ++ report_text (ReportLine.Reply message host client.now id shown.now)) }
 {
-    push_reply(text, message, host, client, id)?;
+    push_numbered(text, b"msg ", message)?;
+    push_numbered(text, b" host ", u64::from(host.0))?;
+    push_named(text, b" to client ", client)?;
+    push_numbered(text, b" reply ", u64::from(id))?;
+    text.push(b' ')?;
     push_outcome(text, alloc, shown)?;
     end_line(text)
 }
 
-// Writes the words that stand before what a host made of a request.
-fn push_at(text: &mut Vec<u8>, host: HostNo, group: &Name) -> Result<(), NoMemory>
-    ensures { OnOk result (text.new.items ≡ text.old.items ++ (phrase_text (codes "at" ∷ decimal host.0 ∷ group.now ∷ []) ++ 32 ∷ [])) }
-{
-    push_numbered(text, b"at ", u64::from(host.0))?;
-    push_named(text, b" ", group)?;
-    text.push(b' ')?;
-    Ok(())
-}
-
+/// Writes the line of what a host made of a request.
 #[inline(never)]
-fn at_line(
+pub fn at_line(
     text: &mut Vec<u8>,
     alloc: Global,
     host: HostNo,
@@ -232,19 +184,11 @@ fn at_line(
 ) -> Result<(), NoMemory>
     ensures { OnOk result (text.new.items ≡ text.old.items ++ report_text (ReportLine.At host group.now decision)) }
 {
-    push_at(text, host, group)?;
+    push_numbered(text, b"at ", u64::from(host.0))?;
+    push_named(text, b" ", group)?;
+    text.push(b' ')?;
     push_decision(text, decision)?;
     end_line(text)
-}
-
-// Writes the words that stand before how a client's invocation ended.
-fn push_done(text: &mut Vec<u8>, client: &Name, call: u32) -> Result<(), NoMemory>
-    ensures { OnOk result (text.new.items ≡ text.old.items ++ (phrase_text (codes "done" ∷ client.now ∷ decimal call ∷ []) ++ 32 ∷ [])) }
-{
-    push_named(text, b"done ", client)?;
-    push_numbered(text, b" ", u64::from(call))?;
-    text.push(b' ')?;
-    Ok(())
 }
 
 #[inline(never)]
@@ -257,7 +201,9 @@ fn done_line(
 ) -> Result<(), NoMemory>
     ensures { OnOk result (text.new.items ≡ text.old.items ++ report_text (ReportLine.Done client.now call end.now)) }
 {
-    push_done(text, client, call)?;
+    push_named(text, b"done ", client)?;
+    push_numbered(text, b" ", u64::from(call))?;
+    text.push(b' ')?;
     push_end(text, alloc, end)?;
     end_line(text)
 }
@@ -525,7 +471,7 @@ fn refused_line(text: &mut Vec<u8>, alloc: Global, fault: ManageFault) -> Result
 fn refused_setting_line(text: &mut Vec<u8>, fault: SettingFault) -> Result<(), NoMemory>
     ensures { OnOk result (text.new.items ≡ text.old.items ++ report_text (ReportLine.RefusedSetting fault)) }
 {
-    push_front(text, &[Fixed(b"refused")])?;
+    text.extend_from_slice(b"refused ")?;
     push_setting(text, fault)?;
     end_line(text)
 }
@@ -534,7 +480,7 @@ fn refused_setting_line(text: &mut Vec<u8>, fault: SettingFault) -> Result<(), N
 fn refused_subscriber_line(text: &mut Vec<u8>, fault: SubscribeFault) -> Result<(), NoMemory>
     ensures { OnOk result (text.new.items ≡ text.old.items ++ report_text (ReportLine.RefusedSubscriber fault)) }
 {
-    push_front(text, &[Fixed(b"refused")])?;
+    text.extend_from_slice(b"refused ")?;
     push_subscribe(text, fault)?;
     end_line(text)
 }
@@ -562,8 +508,9 @@ fn fault_line<'a>(
     )
 }
 
+/// Writes the line of what a host wrote on a link.
 #[inline(never)]
-fn bytes_line(text: &mut Vec<u8>, alloc: Global, written: &Bytes) -> Result<(), NoMemory>
+pub fn bytes_line(text: &mut Vec<u8>, alloc: Global, written: &Bytes) -> Result<(), NoMemory>
     ensures { OnOk result (text.new.items ≡ text.old.items ++ report_text (ReportLine.Bytes written.now)) }
 {
     let written = octets(alloc, written)?;

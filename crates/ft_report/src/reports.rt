@@ -5,7 +5,7 @@ ghost use Rattle.ft_report.specs.declared.reports.ReportLine.{ReportLine};
 
 use crate::histories::Written;
 use crate::outcomes::ReportOutcome;
-use crate::rendering::write_line;
+use crate::rendering::{at_line, bytes_line, reply_line, write_line};
 use ft_base::{Bytes, Decision, GroupId, HostNo, Ignored, Members, Name, NoMemory, Tick, Version};
 use giop_messages::Why;
 use group_model::ManageFault;
@@ -383,14 +383,23 @@ impl Model for ReportLines {
 // Most reports have two or three lines.
 const REPORT_ROOM: usize = 128;
 
-// Writes a line, behind the others; the first takes room for some more.
-fn write_with_room(text: &mut Vec<u8>, alloc: Global, line: &ReportLine) -> Result<(), NoMemory>
-    ensures { OnOk result (text.new.items ≡ text.old.items ++ report_text line.now) }
+// Where a line is the first, takes room for it and some more.
+fn room_of_first(text: &mut Vec<u8>) -> Result<(), NoMemory>
+    ensures { OnOk result (text.new.items ≡ text.old.items) }
 {
     if text.is_empty() {
         text.reserve(REPORT_ROOM)?;
     }
-    write_line(text, alloc, line)
+    Ok(())
+}
+
+// Takes all lines back, where no memory is left.
+fn clear(text: &mut Vec<u8>, written: &mut Written)
+    ensures text { text.new.items ≡ [] }
+    ensures lines { written.new.lines ≡ [] }
+{
+    text.clear();
+    *written = Written::new();
 }
 
 impl ReportLines {
@@ -409,12 +418,65 @@ impl ReportLines {
     pub fn push(&mut self, line: ReportLine) -> Result<(), NoMemory>
         ensures { OnOk result (self.new ≡ self.old ++ line ∷ []) }
     {
-        if write_with_room(&mut self.text, self.alloc, &line).is_err() {
-            self.text.clear();
-            self.written = Written::new();
+        let room = room_of_first(&mut self.text);
+        if room.is_err() || write_line(&mut self.text, self.alloc, &line).is_err() {
+            clear(&mut self.text, &mut self.written);
             return Err(NoMemory);
         }
         self.written = Written::with(&self.written, &line);
+        Ok(())
+    }
+
+    /// Adds what a host made of a request, as the last line; where no memory is left nothing is said of the lines.
+    pub fn push_at(
+        &mut self,
+        host: HostNo,
+        group: &Name,
+        decision: Decision,
+    ) -> Result<(), NoMemory>
+        ensures { OnOk result (self.new ≡ self.old ++ ReportLine.At host group.now decision ∷ []) }
+    {
+        let room = room_of_first(&mut self.text);
+        if room.is_err() || at_line(&mut self.text, self.alloc, host, group, decision).is_err() {
+            clear(&mut self.text, &mut self.written);
+            return Err(NoMemory);
+        }
+        self.written = Written::with_at(&self.written, &host, group, &decision);
+        Ok(())
+    }
+
+    /// Adds a reply, as the last line; where no memory is left nothing is said of the lines.
+    pub fn push_reply(
+        &mut self,
+        message: u64,
+        host: HostNo,
+        client: &Name,
+        id: u32,
+        shown: &ReportOutcome,
+    ) -> Result<(), NoMemory>
+        ensures { OnOk result (self.new ≡ self.old ++ ReportLine.Reply message host client.now id shown.now ∷ []) }
+    {
+        let room = room_of_first(&mut self.text);
+        if room.is_err()
+            || reply_line(&mut self.text, self.alloc, message, host, client, id, shown).is_err()
+        {
+            clear(&mut self.text, &mut self.written);
+            return Err(NoMemory);
+        }
+        self.written = Written::with_reply(&self.written, &message, &host, client, &id, shown);
+        Ok(())
+    }
+
+    /// Adds what a host wrote on a link, as the last line; where no memory is left nothing is said of the lines.
+    pub fn push_bytes(&mut self, bytes: &Bytes) -> Result<(), NoMemory>
+        ensures { OnOk result (self.new ≡ self.old ++ ReportLine.Bytes bytes.now ∷ []) }
+    {
+        let room = room_of_first(&mut self.text);
+        if room.is_err() || bytes_line(&mut self.text, self.alloc, bytes).is_err() {
+            clear(&mut self.text, &mut self.written);
+            return Err(NoMemory);
+        }
+        self.written = Written::with_bytes(&self.written, bytes);
         Ok(())
     }
 
@@ -423,8 +485,7 @@ impl ReportLines {
         ensures { OnOk result (self.new ≡ self.old ++ others) }
     {
         if self.text.extend_from_slice(others.text.as_slice()).is_err() {
-            self.text.clear();
-            self.written = Written::new();
+            clear(&mut self.text, &mut self.written);
             return Err(NoMemory);
         }
         self.written = Written::joined(&self.written, &others.written);

@@ -429,6 +429,26 @@ fn lines_in_order(rt: HostRuntime) -> Result<(), NoMemory> {
     Ok(())
 }
 
+// A line that is pushed by its parts has the same bytes.
+#[test]
+fn lines_from_parts(rt: HostRuntime) -> Result<(), NoMemory> {
+    let alloc = rt.alloc();
+    let group = name(alloc, b"bank")?;
+    let client = name(alloc, b"ann")?;
+    let shown = ReportOutcome::Value(Worth::Number(100));
+    let bytes = Bytes::of(alloc, b"GIOP")?;
+    let mut parts = ReportLines::new(alloc);
+    parts.push_at(HOST, &group, Decision::Append(0))?;
+    parts.push_reply(2, HOST, &client, 1, &shown)?;
+    parts.push_bytes(&bytes)?;
+    let mut lines = ReportLines::new(alloc);
+    lines.push(at(alloc, Decision::Append(0))?)?;
+    lines.push(reply(alloc, 2, 1, shown)?)?;
+    lines.push(ReportLine::Bytes(bytes))?;
+    assert!(rt; parts.into_bytes().bytes() == lines.into_bytes().bytes());
+    Ok(())
+}
+
 // What a host made of a request.
 const DECISIONS: [(Decision, &str); 16] = [
     (Decision::Append(0), "at 0 bank append 0\n"),
