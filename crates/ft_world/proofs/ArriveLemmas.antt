@@ -3,7 +3,6 @@ use Rattle.std.proofs.Common.{◌≡◌, ℕ, zero, suc, ◌+◌, ◌<◌, ◌�
 use Rattle.std.specs.Prelude.{if◌then◌else◌, slice_get, option_map, Result, Ok, Err}
 use Rattle.ft_base.specs.declared.memory.NoMemory.{NoMemory}
 use Rattle.ft_base.specs.declared.numbers.GroupId.{GroupId}
-use Rattle.ft_base.specs.declared.numbers.HostNo.{HostNo}
 use Rattle.ft_base.specs.declared.decisions.Stop.{Stop}
 use Rattle.ft_report.specs.declared.reports.ReportLine.{ReportLine}
 use Rattle.group_model.specs.declared.events.Event.{Event}
@@ -11,7 +10,6 @@ use Rattle.group_model.specs.declared.events.GroupAnswer.{GroupAnswer}
 use Rattle.group_model.specs.declared.events.GroupAnswer.TheVariants as answers
 use Rattle.group_model.specs.declared.events.Out.{Out}
 use Rattle.group_model.specs.Sending.{brought}
-use Rattle.script_clients.specs.declared.answers.Attempt.{Attempt}
 use Rattle.script_clients.specs.Clients.{Client}
 use Rattle.script_groups.specs.Acting.{MayCome}
 use Rattle.script_groups.specs.Groups.{ScriptGroup, Placed, group_numbered, placed, turn}
@@ -22,6 +20,7 @@ use Rattle.world_turns.specs.Answers.{Does}
 use Rattle.ft_world.proofs.PlaceLemmas.{same_some}
 use Rattle.ft_world.specs.Delivering.{answered, asker_of, request_event, requested, turned_away}
 use Rattle.ft_world.specs.declared.deliveries.Asker.{Asker}
+use Rattle.ft_world.specs.declared.deliveries.Arrival.{Arrival}
 use Rattle.world_turns.specs.Naming.{Deleted, There, group_with_number, naming_of}
 use Rattle.world_turns.specs.Turns.{Effect, costing, says}
 
@@ -70,73 +69,73 @@ does_behind calls e (Ok report) new before between now is done =
     record { world = done.world; lines = done.lines; calls = omega (arith, is, done.calls) }
 does_behind calls e (Err why) new before between now is done = omega (arith, is, done)
 
-module _ (w : World) (k client : ℕ) (host : HostNo) (a : Attempt) (stop : Stop) (place : ℕ) (g : ScriptGroup) where
+module _ (w : World) (k : ℕ) (r : Arrival) (stop : Stop) (place : ℕ) (g : ScriptGroup) where
   -- of a client that isn't there
-  pub nobody_asks : option_map (asker_of client host a g) (slice_get w.clients client) ≡ None →
-      requested w k client host a stop (There (placed place g)) (slice_get w.clients client) ≡ says w []
-  nobody_asks none = ap (requested w k client host a stop (There (placed place g))) (none_mapped (asker_of client host a g) (slice_get w.clients client) none)
+  pub nobody_asks : option_map (asker_of r g) (slice_get w.clients r.client) ≡ None →
+      requested w k r stop (There (placed place g)) (slice_get w.clients r.client) ≡ says w []
+  nobody_asks none = ap (requested w k r stop (There (placed place g))) (none_mapped (asker_of r g) (slice_get w.clients r.client) none)
 
-  asks_as : (asker : Asker) → option_map (asker_of client host a g) (slice_get w.clients client) ≡ Some asker →
-      requested w k client host a stop (There (placed place g)) (slice_get w.clients client)
-      ≡ costing (turn g (request_event w host a stop)).calls (answered (with_event w place g (request_event w host a stop)) k asker (turn g (request_event w host a stop)).answer)
-  asks_as asker some = go (slice_get w.clients client) some
+  asks_as : (asker : Asker) → option_map (asker_of r g) (slice_get w.clients r.client) ≡ Some asker →
+      requested w k r stop (There (placed place g)) (slice_get w.clients r.client)
+      ≡ costing (turn g (request_event w r stop)).calls (answered (with_event w place g (request_event w r stop)) k asker (turn g (request_event w r stop)).answer)
+  asks_as asker some = go (slice_get w.clients r.client) some
     where
-      go : (o : Option Client) → option_map (asker_of client host a g) o ≡ Some asker →
-          requested w k client host a stop (There (placed place g)) o
-          ≡ costing (turn g (request_event w host a stop)).calls (answered (with_event w place g (request_event w host a stop)) k asker (turn g (request_event w host a stop)).answer)
+      go : (o : Option Client) → option_map (asker_of r g) o ≡ Some asker →
+          requested w k r stop (There (placed place g)) o
+          ≡ costing (turn g (request_event w r stop)).calls (answered (with_event w place g (request_event w r stop)) k asker (turn g (request_event w r stop)).answer)
       go None e = absurd cc
       go (Some c) e =
-          ap (λ (x : Asker). costing (turn g (request_event w host a stop)).calls (answered (with_event w place g (request_event w host a stop)) k x (turn g (request_event w host a stop)).answer))
-          (same_some (asker_of client host a g c) asker e)
+          ap (λ (x : Asker). costing (turn g (request_event w r stop)).calls (answered (with_event w place g (request_event w r stop)) k x (turn g (request_event w r stop)).answer))
+          (same_some (asker_of r g c) asker e)
 
   -- of a group that was deleted
-  pub turned_away_is : (asker : Asker) → option_map (asker_of client host a g) (slice_get w.clients client) ≡ Some asker →
-      requested w k client host a stop (Deleted (placed place g)) (slice_get w.clients client) ≡ turned_away w k asker
-  turned_away_is asker some = go (slice_get w.clients client) some
+  pub turned_away_is : (asker : Asker) → option_map (asker_of r g) (slice_get w.clients r.client) ≡ Some asker →
+      requested w k r stop (Deleted (placed place g)) (slice_get w.clients r.client) ≡ turned_away w k asker
+  turned_away_is asker some = go (slice_get w.clients r.client) some
     where
-      go : (o : Option Client) → option_map (asker_of client host a g) o ≡ Some asker → requested w k client host a stop (Deleted (placed place g)) o ≡ turned_away w k asker
+      go : (o : Option Client) → option_map (asker_of r g) o ≡ Some asker → requested w k r stop (Deleted (placed place g)) o ≡ turned_away w k asker
       go None e = absurd cc
-      go (Some c) e = ap (turned_away w k) (same_some (asker_of client host a g c) asker e)
+      go (Some c) e = ap (turned_away w k) (same_some (asker_of r g c) asker e)
 
-  pub nobody_turned_away : option_map (asker_of client host a g) (slice_get w.clients client) ≡ None →
-      requested w k client host a stop (Deleted (placed place g)) (slice_get w.clients client) ≡ says w []
-  nobody_turned_away none = ap (requested w k client host a stop (Deleted (placed place g))) (none_mapped (asker_of client host a g) (slice_get w.clients client) none)
+  pub nobody_turned_away : option_map (asker_of r g) (slice_get w.clients r.client) ≡ None →
+      requested w k r stop (Deleted (placed place g)) (slice_get w.clients r.client) ≡ says w []
+  nobody_turned_away none = ap (requested w k r stop (Deleted (placed place g))) (none_mapped (asker_of r g) (slice_get w.clients r.client) none)
 
   -- whom it is from
-  pub asker_is : (asker : Asker) → option_map (asker_of client host a g) (slice_get w.clients client) ≡ Some asker → (asker.host ≡ host) × (asker.group ≡ g.id)
-  asker_is asker some = go (slice_get w.clients client) some
+  pub asker_is : (asker : Asker) → option_map (asker_of r g) (slice_get w.clients r.client) ≡ Some asker → (asker.host ≡ r.host) × (asker.group ≡ g.id)
+  asker_is asker some = go (slice_get w.clients r.client) some
     where
-      go : (o : Option Client) → option_map (asker_of client host a g) o ≡ Some asker → (asker.host ≡ host) × (asker.group ≡ g.id)
+      go : (o : Option Client) → option_map (asker_of r g) o ≡ Some asker → (asker.host ≡ r.host) × (asker.group ≡ g.id)
       go None e = absurd cc
-      go (Some c) e = (let same = same_some (asker_of client host a g c) asker e in (ap (λ (x : Asker). x.host) (sym same), ap (λ (x : Asker). x.group) (sym same)))
+      go (Some c) e = (let same = same_some (asker_of r g c) asker e in (ap (λ (x : Asker). x.host) (sym same), ap (λ (x : Asker). x.group) (sym same)))
 
   -- no memory for its event
-  pub short_request : (asker : Asker) → option_map (asker_of client host a g) (slice_get w.clients client) ≡ Some asker → (e : Event) → e ≡ request_event w host a stop →
+  pub short_request : (asker : Asker) → option_map (asker_of r g) (slice_get w.clients r.client) ≡ Some asker → (e : Event) → e ≡ request_event w r stop →
       slice_get w.groups place ≡ Some g → (later : World) (before now : ℕ) → EventAt w place e answers.NoMemory later before now →
-      now ≤ before + (requested w k client host a stop (There (placed place g)) (slice_get w.clients client)).calls
+      now ≤ before + (requested w k r stop (There (placed place g)) (slice_get w.clients r.client)).calls
   short_request asker some e is there later before now short =
       let same : short.group ≡ g = same_some short.group g (sym short.there ∙ there) in
-      let calls : now ≤ before + (turn g (request_event w host a stop)).calls =
+      let calls : now ≤ before + (turn g (request_event w r stop)).calls =
       subst (λ x. now ≤ before + (turn g x).calls) is (subst (λ (s : ScriptGroup). now ≤ before + (turn s e).calls) same short.calls) in
       subst (λ (f : Effect). now ≤ before + f.calls) (sym (asks_as asker some)) (omega (arith, calls))
 
   -- it had its event, and what came of that was done
-  pub request_done : (asker : Asker) → option_map (asker_of client host a g) (slice_get w.clients client) ≡ Some asker → (e : Event) → e ≡ request_event w host a stop →
+  pub request_done : (asker : Asker) → option_map (asker_of r g) (slice_get w.clients r.client) ≡ Some asker → (e : Event) → e ≡ request_event w r stop →
       slice_get w.groups place ≡ Some g → (answer : GroupAnswer) → (answer ≡ answers.NoMemory → ⊥) → (later new : World) (before between now : ℕ) → EventAt w place e answer later before between →
       (result : Result (List ReportLine) NoMemory) → Does (answered later k asker answer) result new between now →
-      Does (requested w k client host a stop (There (placed place g)) (slice_get w.clients client)) result new before now
+      Does (requested w k r stop (There (placed place g)) (slice_get w.clients r.client)) result new before now
   request_done asker some e is there answer made later new before between now had result done =
       let it = has_turn w place e answer later before between made had in
       let same : it.group ≡ g = same_some it.group g (sym it.there ∙ there) in
-      let later_is : later ≡ with_event w place g (request_event w host a stop) =
+      let later_is : later ≡ with_event w place g (request_event w r stop) =
       it.is ∙ ap (λ (s : ScriptGroup). with_event w place s e) same ∙ ap (with_event w place g) is in
-      let answer_is : (turn g (request_event w host a stop)).answer ≡ answer =
+      let answer_is : (turn g (request_event w r stop)).answer ≡ answer =
       ap (λ x. (turn g x).answer) (sym is) ∙ ap (λ (s : ScriptGroup). (turn s e).answer) (sym same) ∙ it.told in
-      let counted : between ≡ before + (turn g (request_event w host a stop)).calls =
+      let counted : between ≡ before + (turn g (request_event w r stop)).calls =
       it.calls ∙ ap (λ (s : ScriptGroup). before + (turn s e).calls) same ∙ ap (λ x. before + (turn g x).calls) is in
       subst (λ (f : Effect). Does f result new before now) (sym (asks_as asker some))
-      (does_behind (turn g (request_event w host a stop)).calls (answered (with_event w place g (request_event w host a stop)) k asker (turn g (request_event w host a stop)).answer) result new before between now counted
-      (subst (λ (b : GroupAnswer). Does (answered (with_event w place g (request_event w host a stop)) k asker b) result new between now) (sym answer_is)
+      (does_behind (turn g (request_event w r stop)).calls (answered (with_event w place g (request_event w r stop)) k asker (turn g (request_event w r stop)).answer) result new before between now counted
+      (subst (λ (b : GroupAnswer). Does (answered (with_event w place g (request_event w r stop)) k asker b) result new between now) (sym answer_is)
       (subst (λ (v : World). Does (answered v k asker answer) result new between now) later_is done)))
 
 -- ---- a group that is there

@@ -64,8 +64,9 @@ use Rattle.ft_world.proofs.KeepingLemmas.{Keeps, Makes, as_many, behind, client_
 use Rattle.ft_world.proofs.PlaceLemmas.{IsOf, IsOneNamed, IsOneOf, all_get, all_push, all_set, called_one, found_one, got, there_one, with_number_one}
 use Rattle.ft_world.specs.Acts.{act, act_first}
 use Rattle.ft_world.specs.Clients.{attempted, begun, call_by, call_from, call_said, call_to, does, gone_for, gone_said, started, started_by}
-use Rattle.ft_world.specs.Delivering.{answered, arrives, asker_of, brought_to, delivered, heard_by, heard_of, replied, request_event, requested, turned_away}
+use Rattle.ft_world.specs.Delivering.{answered, arrives, asker_of, arrival_of, brought_to, delivered, heard_by, heard_of, replied, request_event, requested, turned_away}
 use Rattle.ft_world.specs.declared.deliveries.Asker.{Asker}
+use Rattle.ft_world.specs.declared.deliveries.Arrival.{Arrival}
 use Rattle.world_management.specs.Creating.{create_causes, create_line, created, created_unless, creation, delete_found, grow_to, in_full, style_in}
 use Rattle.world_management.specs.Hosts.{change_of, change_to, changed, changes_members, crash_line, fault_of, host_causes, on_host, restart_line, show_found, started_again, stopped, with_reported}
 use Rattle.ft_world.specs.Laws.{AllLater, HasMore, calls_of_groups}
@@ -261,19 +262,19 @@ module _ (T : Type 0) where
       let new : World = replied w a (SystemAnswer no_group) in
       if_keeps w (is_up w a.host.0) (says new _) (says w _) (untouched w new refl refl (λ lines f. f)) (same w)
 
-  requested_keeps : (w : World) (k client : ℕ) (host : HostNo) (a : Attempt) (stop : Stop) (n : Naming) (c : Option Client) →
-      IsOneNamed w.groups n → Makes w (requested w k client host a stop n c)
-  requested_keeps w k client host a stop NeverMade c is = same w
-  requested_keeps w k client host a stop (Deleted p) None is = same w
-  requested_keeps w k client host a stop (Deleted p) (Some c) is = turned_away_keeps w k (asker_of client host a p.value c)
-  requested_keeps w k client host a stop (There p) None is = same w
-  requested_keeps w k client host a stop (There p) (Some c) is =
-      let e : Event = request_event w host a stop in
+  requested_keeps : (w : World) (k : ℕ) (r : Arrival) (stop : Stop) (n : Naming) (c : Option Client) →
+      IsOneNamed w.groups n → Makes w (requested w k r stop n c)
+  requested_keeps w k r stop NeverMade c is = same w
+  requested_keeps w k r stop (Deleted p) None is = same w
+  requested_keeps w k r stop (Deleted p) (Some c) is = turned_away_keeps w k (asker_of r p.value c)
+  requested_keeps w k r stop (There p) None is = same w
+  requested_keeps w k r stop (There p) (Some c) is =
+      let e : Event = request_event w r stop in
       let v : World = with_event w p.place p.value e in
       let answer : GroupAnswer = (turn p.value e).answer in
-      let made : Effect = answered v k (asker_of client host a p.value c) answer in
+      let made : Effect = answered v k (asker_of r p.value c) answer in
       behind w v made.world (turn p.value e).calls made.calls (group_acts w p e is)
-      (answered_keeps v k (asker_of client host a p.value c) answer)
+      (answered_keeps v k (asker_of r p.value c) answer)
 
   heard_keeps : (w : World) (k : ℕ) (r : AReply) (o : Option Client) → IsOf w.clients o → Makes w (heard_by w k r o)
   heard_keeps w k r None is = same w
@@ -308,7 +309,7 @@ module _ (T : Type 0) where
 
   arrives_keeps : (w : World) (k : ℕ) (stop : Stop) (m : Message) → Makes w (arrives w k stop m)
   arrives_keeps w k stop (messages.Request client host a) =
-      requested_keeps w k client host a stop (group_with_number w a.group.0) (slice_get w.clients client) (with_number_one w a.group.0)
+      requested_keeps w k (arrival_of client host a) stop (group_with_number w a.group.0) (slice_get w.clients client) (with_number_one w a.group.0)
   arrives_keeps w k stop (messages.Reply r) = heard_keeps w k r (slice_get w.clients r.client) (got w.clients r.client)
   arrives_keeps w k stop (messages.Carried group out) = brought_keeps w k out (group_with_number w group.0) (with_number_one w group.0)
   arrives_keeps w k stop (messages.Ping group host) = ping_keeps w k host (group_with_number w group.0)

@@ -10,6 +10,7 @@ use Rattle.client_retry.specs.declared.answers.Heard.TheVariants as heards
 use Rattle.fault_script.specs.declared.lines.LineFault.TheVariants.{Unknown}
 use Rattle.ft_report.specs.declared.reports.ReportLine.{ReportLine}
 use Rattle.ft_report.specs.declared.reports.ReportLine.TheVariants as reports
+use Rattle.group_model.specs.Asking.{signature_asked}
 use Rattle.group_model.specs.declared.asking.Asked.{Asked}
 use Rattle.group_model.specs.declared.events.Event.{Event}
 use Rattle.group_model.specs.declared.events.Event.TheVariants as events
@@ -24,9 +25,10 @@ use Rattle.sys_faults.specs.declared.answers.Answer.{Answer}
 use Rattle.sys_faults.specs.declared.answers.Answer.TheVariants as answers
 use Rattle.script_clients.specs.declared.answers.Attempt.{Attempt}
 use Rattle.script_clients.specs.Clients.{Client, hearing}
-use Rattle.script_groups.specs.Groups.{ScriptGroup, Placed, group_numbered, signature_of, turn}
+use Rattle.script_groups.specs.Groups.{ScriptGroup, Placed, group_numbered, machine_of, turn}
 use Rattle.script_groups.specs.References.{reference_at}
 use Rattle.ft_world.specs.declared.deliveries.Asker.{Asker}
+use Rattle.ft_world.specs.declared.deliveries.Arrival.{Arrival}
 use Rattle.script_world.specs.declared.messages.Message.{Message}
 use Rattle.script_world.specs.declared.messages.Message.TheVariants as messages
 use Rattle.script_world.specs.declared.messages.Reply.{Reply}
@@ -54,18 +56,22 @@ asked_by a = record {
   body = record { order = Big; align = 0; bytes = a.request.args };
 }
 
-abbrev pub request_event : World → HostNo → Attempt → Stop → Event
-request_event w host a stop = events.Request host (record { 0 = host_clock w host.0 }) (asked_by a) stop
+-- as it arrives, from this client at this host
+abbrev pub arrival_of : ℕ → HostNo → Attempt → Arrival
+arrival_of client host a = record { client = client; host = host; group = a.group; id = a.id; asked = asked_by a }
 
-abbrev pub asker_of : ℕ → HostNo → Attempt → ScriptGroup → Client → Asker
-asker_of client host a g c = record {
-  client = client;
+abbrev pub request_event : World → Arrival → Stop → Event
+request_event w r stop = events.Request r.host (record { 0 = host_clock w r.host.0 }) r.asked stop
+
+abbrev pub asker_of : Arrival → ScriptGroup → Client → Asker
+asker_of r g c = record {
+  client = r.client;
   client_name = c.name;
-  host = host;
-  id = a.id;
+  host = r.host;
+  id = r.id;
   group = g.id;
   group_name = g.name;
-  gives = gives_of (signature_of g a.request.op);
+  gives = gives_of (signature_asked (machine_of g) r.asked.op);
 }
 
 abbrev pub reply_to : Asker → Answer → Reply
@@ -103,14 +109,14 @@ turned_away w k a =
     else says w (reports.Lost k ∷ [])
 
 -- to a group, from a client
-abbrev pub requested : World → ℕ → ℕ → HostNo → Attempt → Stop → Naming → Option Client → Effect
-requested w k client host a stop NeverMade c = says w []
-requested w k client host a stop (Deleted g) None = says w []
-requested w k client host a stop (Deleted g) (Some c) = turned_away w k (asker_of client host a g.value c)
-requested w k client host a stop (There g) None = says w []
-requested w k client host a stop (There g) (Some c) =
-    let e = request_event w host a stop in
-    costing (turn g.value e).calls (answered (with_event w g.place g.value e) k (asker_of client host a g.value c) (turn g.value e).answer)
+abbrev pub requested : World → ℕ → Arrival → Stop → Naming → Option Client → Effect
+requested w k r stop NeverMade c = says w []
+requested w k r stop (Deleted g) None = says w []
+requested w k r stop (Deleted g) (Some c) = turned_away w k (asker_of r g.value c)
+requested w k r stop (There g) None = says w []
+requested w k r stop (There g) (Some c) =
+    let e = request_event w r stop in
+    costing (turn g.value e).calls (answered (with_event w g.place g.value e) k (asker_of r g.value c) (turn g.value e).answer)
 
 -- ---- a reply comes to its client
 
@@ -168,7 +174,7 @@ brought_to w k out (There g) =
 
 abbrev pub arrives : World → ℕ → Stop → Message → Effect
 arrives w k stop (messages.Request client host a) =
-    requested w k client host a stop (group_with_number w a.group.0) (slice_get w.clients client)
+    requested w k (arrival_of client host a) stop (group_with_number w a.group.0) (slice_get w.clients client)
 arrives w k stop (messages.Reply r) = heard_by w k r (slice_get w.clients r.client)
 arrives w k stop (messages.Carried group out) = brought_to w k out (group_with_number w group.0)
 arrives w k stop (messages.Ping group host) = ping_comes w k group host

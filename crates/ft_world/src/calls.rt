@@ -19,7 +19,7 @@ use group_references::host_at;
 use iogr_reference::GroupRef;
 use message_sizes::request_size;
 use script_clients::{Attempt, ScriptClient, Told};
-use script_world::{Begun, DEFAULT_LIFE, Message, World};
+use script_world::{Apart, Begun, DEFAULT_LIFE, Message, World};
 use world_turns::{Named, gone, group_called, one_line};
 
 fn retention_of(client: &ScriptClient, retention: Option<Retention>) -> Retention
@@ -65,6 +65,7 @@ fn push_attempt(
         id: attempt.id,
     })?;
     let bytes = request_size(&attempt);
+    let attempt = Apart::of(world.alloc(), attempt)?;
     world.send(Message::Request {
         client,
         host,

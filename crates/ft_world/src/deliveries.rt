@@ -11,17 +11,18 @@ ghost use Rattle.message_sizes.specs.Sizes.{answer_size};
 ghost use Rattle.script_groups.specs.References.{ior_at};
 ghost use Rattle.ft_world.specs.Links.{forward_by, port_answer};
 ghost use Rattle.ft_world.specs.Serving.{AreInForm, IsInForm};
-ghost use Rattle.ft_world.specs.Delivering.{answered, arrives, asked_by, asker_of, brought_to, came, deliver_line, heard_by, heard_of, held, index_of, redirected_to, replied, requested, turned_away};
+ghost use Rattle.ft_world.specs.Delivering.{answered, arrival_of, asked_by, asker_of, brought_to, came, deliver_line, heard_by, heard_of, held, index_of, redirected_to, replied, requested, turned_away};
 ghost use Rattle.host_server.specs.Replies.{no_group};
 ghost use Rattle.ft_base.specs.declared.decisions.Stop.{Stop as AStop};
 ghost use Rattle.script_groups.specs.Acting.{MayCome};
 ghost use Rattle.world_turns.specs.Naming.{Deleted, There, group_with_number};
-ghost use Rattle.ft_world.specs.Printed.{gives_of, shown};
+ghost use Rattle.ft_world.specs.Printed.{shown};
 ghost use Rattle.world_turns.specs.Sending.{carried};
 ghost use Rattle.script_world.specs.Sound.{IsKeptWorld, IsOnItsWay};
 
 use crate::calls::does;
-use crate::printing::{gives_of, shown};
+use crate::links::gives_asked;
+use crate::printing::shown;
 use cdr_codec::{Order, Raw};
 use client_retry::Heard;
 use fault_script::LineFault;
@@ -32,7 +33,7 @@ use link_session::view_references_can_be_sent;
 use message_sizes::{fault_size, forward_size, outcome_size};
 use script_clients::Attempt;
 use script_groups::{answers_are_in_form, shown_are_views};
-use script_world::{Message, Reply, World};
+use script_world::{Message, Reply, World, copy_out};
 use std::alloc::Global;
 use std::sync::ledger::Ledger;
 use sys_faults::{Answer, Completed, SysFault, SysKind};
@@ -54,6 +55,18 @@ pub struct Asker {
     pub gives: Option<Par>,
 }
 
+/// A client's request, as it arrives at a host.
+#[derive(Drop)]
+pub struct Arrival {
+    /// The place of the client among all clients.
+    pub client: usize,
+    pub host: HostNo,
+    pub group: GroupId,
+    /// The request's id.
+    pub id: u32,
+    pub asked: Asked,
+}
+
 /// More bytes of arguments than a line can say.
 const ARGUMENT_ROOM: usize = 1_048_576;
 
@@ -65,31 +78,52 @@ fn are_octets(bytes: &[u8])
 }
 
 // What an attempt asks of its host.
-fn asked_by(alloc: Global, attempt: Attempt) -> Result<Asked, NoMemory>
-    ensures asked { IfOk result (λ asked. asked ≡ asked_by attempt) }
+fn asked_by(alloc: Global, attempt: &Attempt) -> Result<Asked, NoMemory>
+    ensures asked { IfOk result (λ asked. asked ≡ asked_by attempt.now) }
     ensures short { IfOk result IsShortAsked }
 {
-    let Attempt {
-        version,
-        request,
-        ..
-    } = attempt;
-    let Request { key, op, args } = request;
+    let Request { key, op, args } = &attempt.request;
     are_octets(args.bytes());
     // no line is that long
     if args.bytes().len() > ARGUMENT_ROOM {
         return Err(NoMemory);
     }
+    let key = match key {
+        None => None,
+        Some(key) => Some(key.copy(alloc)?),
+    };
+    let op = op.copy(alloc)?;
+    let bytes = args.copy(alloc)?;
     Ok(Asked {
-        version,
+        version: attempt.version,
         key,
         bad_context: None,
         op: Some(op),
         body: Raw {
             order: Order::Big,
             align: 0,
-            bytes: args,
+            bytes,
         },
+    })
+}
+
+// An attempt as it arrives.
+fn arrival_of(
+    alloc: Global,
+    client: usize,
+    host: HostNo,
+    attempt: &Attempt,
+) -> Result<Arrival, NoMemory>
+    ensures arrival { IfOk result (λ arrival. arrival ≡ arrival_of client host attempt.now) }
+    ensures short { IfOk result (λ arrival. IsShortAsked arrival.asked) }
+{
+    let asked = asked_by(alloc, attempt)?;
+    Ok(Arrival {
+        client,
+        host,
+        group: attempt.group,
+        id: attempt.id,
+        asked,
     })
 }
 
@@ -196,40 +230,19 @@ fn answered_report(
         ∷ ReportLine.Reply message asker.now.host asker.now.client_name asker.now.id (shown asker.now.group_name asker.now.gives answer.now) ∷ []) }
 {
     let mut report = ReportLines::new(alloc);
-    let group = asker.group_name.copy(alloc)?;
-    report.push(ReportLine::At {
-        host: asker.host,
-        group,
-        decision,
-    })?;
-    let client = asker.client_name.copy(alloc)?;
+    report.push_at(asker.host, &asker.group_name, decision)?;
     let shown = shown(alloc, &asker.group_name, asker.gives, answer)?;
-    report.push(ReportLine::Reply {
-        message,
-        host: asker.host,
-        client,
-        id: asker.id,
-        shown,
-    })?;
+    report.push_reply(message, asker.host, &asker.client_name, asker.id, &shown)?;
     Ok(report)
 }
 
 // What is printed of a request at which its host stopped.
-fn stopped_report(alloc: Global, asker: Asker, decision: Decision) -> Result<ReportLines, NoMemory>
-    ensures { IfOk result (λ report. report ≡ ReportLine.At asker.host asker.group_name decision ∷ ReportLine.Down asker.host ∷ []) }
+fn stopped_report(alloc: Global, asker: &Asker, decision: Decision) -> Result<ReportLines, NoMemory>
+    ensures { IfOk result (λ report. report ≡ ReportLine.At asker.now.host asker.now.group_name decision ∷ ReportLine.Down asker.now.host ∷ []) }
 {
     let mut report = ReportLines::new(alloc);
-    let Asker {
-        host,
-        group_name,
-        ..
-    } = asker;
-    report.push(ReportLine::At {
-        host,
-        group: group_name,
-        decision,
-    })?;
-    report.push(ReportLine::Down { host })?;
+    report.push_at(asker.host, &asker.group_name, decision)?;
+    report.push(ReportLine::Down { host: asker.host })?;
     Ok(report)
 }
 
@@ -331,9 +344,8 @@ fn stop<L: Ledger>(
     requires kept { IsKeptWorld world.old }
     ensures { (k : ℕ) (out : List AnOut) → Does (answered world.old k asker (GroupAnswer.Reply decision None out)) result world.new steps.old steps.new }
 {
-    let host = asker.host;
-    let report = stopped_report(world.alloc(), asker, decision)?;
-    world.set_power(host, false, steps)?;
+    let report = stopped_report(world.alloc(), &asker, decision)?;
+    world.set_power(asker.host, false, steps)?;
     Ok(report)
 }
 
@@ -365,35 +377,29 @@ fn answered<L: Ledger>(
     }
 }
 
-// Who asks by this attempt, of the group at this place.
+// Who asks by this request, of the group at this place.
 #[inline(always)]
-fn who_asks(
-    world: &World,
-    client: usize,
-    host: HostNo,
-    attempt: &Attempt,
-    place: usize,
-) -> Result<Option<Asker>, NoMemory>
+fn who_asks(world: &World, arrival: &Arrival, place: usize) -> Result<Option<Asker>, NoMemory>
     requires within { place < length world.now.groups }
     requires kept { IsKeptWorld world.now }
     ensures { (g : Group) → slice_get world.now.groups place ≡ Some g →
-        IfOk result (λ asker. asker ≡ option_map (asker_of client host attempt.now g) (slice_get world.now.clients client)) }
+        IfOk result (λ asker. asker ≡ option_map (asker_of arrival.now g) (slice_get world.now.clients arrival.now.client)) }
 {
     let alloc = world.alloc();
-    let Some(from) = world.client(client) else {
+    let Some(from) = world.client(arrival.client) else {
         return Ok(None);
     };
     let group = world.group(place);
     let client_name = from.name().copy(alloc)?;
     let group_name = group.name().copy(alloc)?;
     Ok(Some(Asker {
-        client,
+        client: arrival.client,
         client_name,
-        host,
-        id: attempt.id,
+        host: arrival.host,
+        id: arrival.id,
         group: group.id(),
         group_name,
-        gives: gives_of(group.signature(&attempt.request.op)),
+        gives: gives_asked(world, place, &arrival.asked.op),
     }))
 }
 
@@ -415,14 +421,8 @@ fn turned_away_report(alloc: Global, asker: &Asker, message: u64) -> Result<Repo
 {
     let mut report = ReportLines::new(alloc);
     report.push(ReportLine::NoGroup { host: asker.host })?;
-    let client = asker.client_name.copy(alloc)?;
-    report.push(ReportLine::Reply {
-        message,
-        host: asker.host,
-        client,
-        id: asker.id,
-        shown: ReportOutcome::System(no_group()),
-    })?;
+    let shown = ReportOutcome::System(no_group());
+    report.push_reply(message, asker.host, &asker.client_name, asker.id, &shown)?;
     Ok(report)
 }
 
@@ -444,17 +444,15 @@ fn turn_away(world: &mut World, number: u64, asker: Asker) -> Result<ReportLines
 fn arrive_late(
     world: &mut World,
     number: u64,
-    client: usize,
-    host: HostNo,
-    attempt: &Attempt,
+    arrival: &Arrival,
     place: usize,
 ) -> Result<ReportLines, NoMemory>
     requires within { place < length world.old.groups }
     requires kept { IsKeptWorld world.old }
     ensures { (g : Group) (stop : AStop) (calls : ℕ) → slice_get world.old.groups place ≡ Some g →
-        Does (requested world.old number client host attempt.now stop (Deleted (placed place g)) (slice_get world.old.clients client)) result world.new calls calls }
+        Does (requested world.old number arrival.now stop (Deleted (placed place g)) (slice_get world.old.clients arrival.now.client)) result world.new calls calls }
 {
-    match who_asks(world, client, host, attempt, place)? {
+    match who_asks(world, arrival, place)? {
         Some(asker) => turn_away(world, number, asker),
         None => Ok(ReportLines::new(world.alloc())),
     }
@@ -464,30 +462,29 @@ fn arrive_late(
 fn arrive_at<L: Ledger>(
     world: &mut World,
     number: u64,
-    client: usize,
-    host: HostNo,
-    attempt: Attempt,
+    arrival: Arrival,
     place: usize,
     stop: Stop,
     steps: &mut Steps<L>,
 ) -> Result<ReportLines, NoMemory>
     requires within { place < length world.old.groups }
-    requires host { host.0 < HOST_LIMIT }
+    requires host { arrival.host.0 < HOST_LIMIT }
+    requires short { IsShortAsked arrival.asked }
     requires kept { IsKeptWorld world.old }
     ensures { (g : Group) → slice_get world.old.groups place ≡ Some g →
-        Does (requested world.old number client host attempt stop (There (placed place g)) (slice_get world.old.clients client))
+        Does (requested world.old number arrival stop (There (placed place g)) (slice_get world.old.clients arrival.client))
         result world.new steps.old steps.new }
 {
     let alloc = world.alloc();
     answers_are_in_form();
     world.group(place).is_sound();
-    let Some(asker) = who_asks(world, client, host, &attempt, place)? else {
+    let Some(asker) = who_asks(world, &arrival, place)? else {
         return Ok(ReportLines::new(alloc));
     };
     let event = Event::Request {
-        host,
-        clock: world.host_clock(host),
-        asked: asked_by(alloc, attempt)?,
+        host: arrival.host,
+        clock: world.host_clock(arrival.host),
+        asked: arrival.asked,
         stop,
     };
     match world.event_at(place, event, steps) {
@@ -500,23 +497,20 @@ fn arrive_at<L: Ledger>(
 fn arrive<L: Ledger>(
     world: &mut World,
     number: u64,
-    client: usize,
-    host: HostNo,
-    attempt: Attempt,
+    arrival: Arrival,
     stop: Stop,
     steps: &mut Steps<L>,
 ) -> Result<ReportLines, NoMemory>
-    requires host { host.0 < HOST_LIMIT }
+    requires host { arrival.host.0 < HOST_LIMIT }
+    requires short { IsShortAsked arrival.asked }
     requires kept { IsKeptWorld world.old }
-    ensures { Does (requested world.old number client host attempt stop (group_with_number world.old attempt.group.0) (slice_get world.old.clients client))
+    ensures { Does (requested world.old number arrival stop (group_with_number world.old arrival.group.0) (slice_get world.old.clients arrival.client))
         result world.new steps.old steps.new }
 {
-    match group_with_number(world, attempt.group) {
+    match group_with_number(world, arrival.group) {
         Named::Never => Ok(ReportLines::new(world.alloc())),
-        Named::Deleted(place) => arrive_late(world, number, client, host, &attempt, place),
-        Named::There(place) => {
-            arrive_at(world, number, client, host, attempt, place, stop, steps)
-        }
+        Named::Deleted(place) => arrive_late(world, number, &arrival, place),
+        Named::There(place) => arrive_at(world, number, arrival, place, stop, steps),
     }
 }
 
@@ -616,31 +610,6 @@ fn hear(world: &mut World, number: u64, reply: Reply) -> Result<ReportLines, NoM
     does(world, client, &name, gives, Some(idle), told)
 }
 
-// A message comes.
-fn deliver<L: Ledger>(
-    world: &mut World,
-    number: u64,
-    message: Message,
-    stop: Stop,
-    steps: &mut Steps<L>,
-) -> Result<ReportLines, NoMemory>
-    requires comes { IsOnItsWay world.old.groups message }
-    requires kept { IsKeptWorld world.old }
-    ensures { Does (arrives world.old number stop message) result world.new steps.old steps.new }
-{
-    match message {
-        Message::Request {
-            client,
-            host,
-            attempt,
-        } => arrive(world, number, client, host, attempt, stop, steps),
-        Message::Reply(reply) => hear(world, number, reply),
-        Message::Carried { group, out } => bring(world, number, group, out, steps),
-        Message::Ping { group, host } => ping_comes(world, number, group, host),
-        Message::Pong { group, host } => pong_comes(world, number, group, host),
-    }
-}
-
 /// `deliver K`, `deliver K crash append`, `deliver K crash execute`
 pub(crate) fn deliver_line<L: Ledger>(
     world: &mut World,
@@ -651,12 +620,50 @@ pub(crate) fn deliver_line<L: Ledger>(
     requires { IsKeptWorld world.old }
     ensures { Acts (deliver_line world.old number stop) result world.old world.new steps.old steps.new }
 {
-    let message = match world.message(number) {
-        Some(message) => message.copy(world.alloc())?,
-        None => return Err(LineFault::Unknown),
-    };
-    match deliver(world, number, message, stop, steps) {
-        Ok(report) => Ok(report),
-        Err(NoMemory) => Err(LineFault::NoMemory),
+    let alloc = world.alloc();
+    match world.message(number) {
+        None => Err(LineFault::Unknown),
+        Some(
+            Message::Request {
+                client,
+                host,
+                attempt,
+            },
+        ) => {
+            let arrival = arrival_of(alloc, *client, *host, attempt.get())?;
+            match arrive(world, number, arrival, stop, steps) {
+                Ok(report) => Ok(report),
+                Err(NoMemory) => Err(LineFault::NoMemory),
+            }
+        }
+        Some(Message::Reply(reply)) => {
+            let reply = reply.copy(alloc)?;
+            match hear(world, number, reply) {
+                Ok(report) => Ok(report),
+                Err(NoMemory) => Err(LineFault::NoMemory),
+            }
+        }
+        Some(Message::Carried { group, out }) => {
+            let group = *group;
+            let out = copy_out(alloc, out.get())?;
+            match bring(world, number, group, out, steps) {
+                Ok(report) => Ok(report),
+                Err(NoMemory) => Err(LineFault::NoMemory),
+            }
+        }
+        Some(Message::Ping { group, host }) => {
+            let (group, host) = (*group, *host);
+            match ping_comes(world, number, group, host) {
+                Ok(report) => Ok(report),
+                Err(NoMemory) => Err(LineFault::NoMemory),
+            }
+        }
+        Some(Message::Pong { group, host }) => {
+            let (group, host) = (*group, *host);
+            match pong_comes(world, number, group, host) {
+                Ok(report) => Ok(report),
+                Err(NoMemory) => Err(LineFault::NoMemory),
+            }
+        }
     }
 }

@@ -64,7 +64,7 @@ fn push_bytes(bytes: Option<Bytes>, report: &mut ReportLines) -> Result<(), NoMe
 {
     match bytes {
         None => Ok(()),
-        Some(bytes) => report.push(ReportLine::Bytes(bytes)),
+        Some(bytes) => report.push_bytes(&bytes),
     }
 }
 
@@ -91,7 +91,7 @@ fn end_line(end: StreamEnd) -> ReportLine
 }
 
 // What the operation that is asked of the group at this place gives.
-fn gives_asked(world: &World, place: usize, op: &Option<Name>) -> Option<Par>
+pub(crate) fn gives_asked(world: &World, place: usize, op: &Option<Name>) -> Option<Par>
     requires within { place < length world.now.groups }
     requires kept { IsKeptWorld world.now }
     ensures { (g : Group) → slice_get world.now.groups place ≡ Some g → result ≡ gives_of (signature_asked (machine_of g) op.now) }
@@ -188,12 +188,7 @@ fn answered(
     let port = port_answer(world, place, gives, answer)?;
     let group = world.group(place).id();
     let name = world.group(place).name().copy(alloc)?;
-    let at = name.copy(alloc)?;
-    report.push(ReportLine::At {
-        host,
-        group: at,
-        decision,
-    })?;
+    report.push_at(host, &name, decision)?;
     let mut orders = ReportLines::new(alloc);
     send_all(world, &mut orders, group, &name, host, out)?;
     Ok(Said {

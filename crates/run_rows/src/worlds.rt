@@ -11,7 +11,7 @@ use iogr_reference::{Components, GroupRef, Iiop, IiopList};
 use property_manager::{Property, PropertyFault, PropertyName, PropertyValue};
 use script_clients::{Attempt, ScriptClient, Told};
 use script_groups::ScriptGroup;
-use script_world::{Begun, GROUP_LIMIT, Message, Reply, World};
+use script_world::{Begun, GROUP_LIMIT, Message, Reply, World, copy_out};
 use shipped_servants::Kind;
 use std::alloc::Global;
 use std::marker::Brand;
@@ -72,44 +72,22 @@ fn order(alloc: Global) -> Result<Out, NoMemory> {
     })
 }
 
-/// A message, in short.
-fn shown(message: &Message) -> (&'static str, u8, u32) {
-    match message {
-        Message::Request { host, attempt, .. } => ("request", host.0, attempt.id),
-        Message::Reply(reply) => ("reply", reply.host.0, reply.id),
-        Message::Carried { out, .. } => match &out.carried {
-            Inner::Order { index, .. } => ("order", out.to.0, *index),
-            _ => ("other", out.to.0, 0),
-        },
-        Message::Ping { host, .. } => ("ping", host.0, 0),
-        Message::Pong { host, .. } => ("pong", host.0, 0),
+/// The index of an order.
+fn index_of(carried: &Inner) -> Option<u32> {
+    match carried {
+        Inner::Order { index, .. } => Some(*index),
+        _ => None,
     }
 }
 
 #[test]
 fn messages_are_copied(rt: HostRuntime) -> Result<(), NoMemory> {
     let alloc = rt.alloc();
-    let asked = Message::Request {
-        client: 0,
-        host: HostNo(1),
-        attempt: attempt(alloc)?,
-    };
-    let copy = asked.copy(alloc)?;
-    assert!(rt; shown(&copy) == ("request", 1, 7));
-    let answered = Message::Reply(reply(alloc)?);
-    let copy = answered.copy(alloc)?;
-    assert!(rt; shown(&copy) == ("reply", 1, 7));
-    let ordered = Message::Carried {
-        group: GroupId(1),
-        out: order(alloc)?,
-    };
-    let copy = ordered.copy(alloc)?;
-    assert!(rt; shown(&copy) == ("order", 1, 3));
-    let ping = Message::Ping {
-        group: GroupId(1),
-        host: HostNo(1),
-    };
-    assert!(rt; shown(&ping.copy(alloc)?) == ("ping", 1, 0));
+    let answered = reply(alloc)?.copy(alloc)?;
+    assert!(rt; (answered.host.0, answered.id) == (1, 7));
+    let ordered = copy_out(alloc, &order(alloc)?)?;
+    assert!(rt; ordered.to.0 == 1);
+    assert!(rt; index_of(&ordered.carried) == Some(3));
     Ok(())
 }
 

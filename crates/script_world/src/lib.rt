@@ -26,5 +26,5 @@ mod worlds;
 
 pub use hosts::HostState;
 pub use limits::{BYTE_LIMIT, CLIENT_LIMIT, DEFAULT_LIFE, ENTRY_LIMIT, GROUP_LIMIT, MESSAGE_LIMIT};
-pub use messages::{Message, Reply};
+pub use messages::{Apart, Message, Reply, copy_out};
 pub use worlds::{Begun, World};

@@ -4,7 +4,37 @@ use ft_base::{GroupId, HostNo, NoMemory, Par};
 use group_model::{Inner, Out};
 use script_clients::Attempt;
 use std::alloc::Global;
+use std::marker::Model;
 use sys_faults::Answer;
+
+/// A value in memory of its own, so that what has it is as small as without it.
+#[derive(Drop)]
+pub struct Apart<T: Drop> {
+    boxed: Box<T>,
+}
+
+impl<T: Drop> Model for Apart<T> {
+    ghost Value = { T };
+
+    ghost view = { λ a. a.boxed.value };
+}
+
+impl<T: Drop> Apart<T> {
+    pub fn of(alloc: Global, value: T) -> Result<Apart<T>, NoMemory>
+        ensures { IfOk result (λ apart. apart ≡ value) }
+    {
+        let boxed = Box::new(alloc, value)?;
+        Ok(Apart { boxed })
+    }
+
+    /// The value itself.
+    #[inline(always)]
+    pub fn get(&self) -> &T
+        ensures { result.now ≡ self.now }
+    {
+        &self.boxed
+    }
+}
 
 /// A host's reply, on its way to a client.
 #[derive(Drop)]
@@ -27,13 +57,13 @@ pub enum Message {
     Request {
         client: usize,
         host: HostNo,
-        attempt: Attempt,
+        attempt: Apart<Attempt>,
     },
     Reply(Reply),
     /// What one host of a group sends to another, or the manager to a host.
     Carried {
         group: GroupId,
-        out: Out,
+        out: Apart<Out>,
     },
     /// The monitor asks a member of a group, on this host, whether it is alive.
     Ping {
@@ -105,60 +135,11 @@ impl Reply {
     }
 }
 
-fn copy_attempt(alloc: Global, attempt: &Attempt) -> Result<Attempt, NoMemory>
-    ensures { IfOk result (λ copied. copied ≡ attempt.now) }
+/// An equal message from one host to another.
+pub fn copy_out(alloc: Global, out: &Out) -> Result<Out, NoMemory>
+    ensures { IfOk result (λ copied. copied ≡ out.now) }
 {
-    let request = attempt.request.copy(alloc)?;
-    Ok(Attempt {
-        group: attempt.group,
-        port: attempt.port,
-        id: attempt.id,
-        version: attempt.version,
-        request,
-    })
-}
-
-impl Message {
-    /// An equal message.
-    pub fn copy(&self, alloc: Global) -> Result<Message, NoMemory>
-        ensures { IfOk result (λ message. message ≡ self.now) }
-    {
-        match self {
-            Message::Request {
-                client,
-                host,
-                attempt,
-            } => {
-                let client = *client;
-                let host = *host;
-                let attempt = copy_attempt(alloc, attempt)?;
-                Ok(Message::Request {
-                    client,
-                    host,
-                    attempt,
-                })
-            }
-            Message::Reply(reply) => {
-                let reply = reply.copy(alloc)?;
-                Ok(Message::Reply(reply))
-            }
-            Message::Carried { group, out } => {
-                let group = *group;
-                let to = out.to;
-                let carried = copy_inner(alloc, &out.carried)?;
-                Ok(Message::Carried {
-                    group,
-                    out: Out { to, carried },
-                })
-            }
-            Message::Ping { group, host } => Ok(Message::Ping {
-                group: *group,
-                host: *host,
-            }),
-            Message::Pong { group, host } => Ok(Message::Pong {
-                group: *group,
-                host: *host,
-            }),
-        }
-    }
+    let to = out.to;
+    let carried = copy_inner(alloc, &out.carried)?;
+    Ok(Out { to, carried })
 }

@@ -8,7 +8,7 @@ ghost use Rattle.script_world.specs.World.{at_most_one_past, with_messages};
 use ft_base::{GroupId, HostNo, Name, NoMemory, Request, View};
 use ft_report::{ReportLine, ReportLines};
 use group_model::{Inner, Out, OutList};
-use script_world::{BYTE_LIMIT, Message, World};
+use script_world::{Apart, BYTE_LIMIT, Message, World};
 use std::alloc::Global;
 
 /// Prints a view.
@@ -138,6 +138,7 @@ fn send_out(
     let number = world.message_count() as u64 + 1;
     let line = sent_line(world.alloc(), number, name, from, out.to, &out.carried)?;
     report.push(line)?;
+    let out = Apart::of(world.alloc(), out)?;
     world.send(Message::Carried { group, out })
 }
 
