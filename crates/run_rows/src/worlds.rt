@@ -11,7 +11,7 @@ use iogr_reference::{Components, GroupRef, Iiop, IiopList};
 use property_manager::{Property, PropertyFault, PropertyName, PropertyValue};
 use script_clients::{Attempt, ScriptClient, Told};
 use script_groups::ScriptGroup;
-use script_world::{Begun, GROUP_LIMIT, Message, Reply, World, copy_out};
+use script_world::{Apart, Begun, GROUP_LIMIT, Message, Reply, World, copy_out};
 use shipped_servants::Kind;
 use std::alloc::Global;
 use std::marker::Brand;
@@ -136,7 +136,7 @@ fn stop_and_start<L: Ledger>(rt: &impl Abort, alloc: Global, blank: Blank) -> Re
     world.send(Message::Request {
         client: 0,
         host: HostNo(1),
-        attempt: attempt(alloc)?,
+        attempt: Apart::of(alloc, attempt(alloc)?)?,
     })?;
     world.send(Message::Reply(reply(alloc)?))?;
     world.set_power(HostNo(1), false, &mut steps)?;
