@@ -45,24 +45,6 @@ pub fn number_of_u64(order: Order, digits: &[u8]) -> u64
     }
 }
 
-pub fn digits_of_u8(order: Order, n: u8) -> [u8; 1]
-    ensures { result ≡ digits_in order 1 n }
-{
-    match order {
-        Order::Big => n.to_be_bytes(),
-        Order::Little => n.to_le_bytes(),
-    }
-}
-
-pub fn digits_of_u16(order: Order, n: u16) -> [u8; 2]
-    ensures { result ≡ digits_in order 2 n }
-{
-    match order {
-        Order::Big => n.to_be_bytes(),
-        Order::Little => n.to_le_bytes(),
-    }
-}
-
 /// The digits of an unsigned long, without padding.
 pub fn digits_of_u32(order: Order, n: u32) -> [u8; 4]
     ensures { result ≡ digits_in order 4 n }

@@ -1,14 +1,14 @@
-ghost use Rattle.std.specs.Prelude.{◌≡◌, ◌≤◌, ◌<◌, ◌+◌, ◌^◌, ℕ, List, [], ◌∷◌, ◌++◌, length, replicate, take, slice_get, None, OnOk, OnErr};
+ghost use Rattle.std.specs.Prelude.{◌≡◌, ◌≤◌, ◌<◌, ◌+◌, ◌^◌, ℕ, List, [], ◌∷◌, ◌++◌, length, replicate, take, slice_get, None, OnOk, OnErr, vec_len, vec_capacity};
 ghost use Rattle.std.specs.Int.{w16, w32, w64};
 ghost use Rattle.std.specs.Option.{option_to_list};
 ghost use Rattle.ft_base.specs.Canonical.{padding};
 ghost use Rattle.ft_base.specs.Text.{zero_place};
+ghost use Rattle.cdr_codec.specs.Reading.{digits_in};
 ghost use Rattle.cdr_codec.specs.Formats.{number, octets, written_piece};
 ghost use Rattle.cdr_codec.specs.Values.{boolean, text, signed};
 ghost use Rattle.cdr_codec.specs.Calls.{appended};
 ghost use Rattle.cdr_codec.specs.Encapsulations.{IsEncapsulated};
 
-use crate::digits::{digits_of_u8, digits_of_u16, digits_of_u32, digits_of_u64};
 use crate::orders::Order;
 use ft_base::{Bytes, NoMemory};
 use std::alloc::Global;
@@ -31,52 +31,25 @@ impl Model for CdrWriter {
     ghost view = { λ w. record { order = w.order; place = w.place; text = w.text.items } };
 }
 
-/// Zeros, and then the digits of a number, at the front of what is given.
-fn padded(skip: usize, digits: &[u8]) -> [u8; 16]
-    requires skips { skip ≤ 8 }
-    requires numbers { length digits.now ≤ 8 }
-    ensures { take (skip + length digits.now) result ≡ replicate skip 0 ++ digits.now }
+/// Zeros at the end of the text, which has room for them. Each step appends so many as the compiler
+/// knows, and so is one store; a loop, or a copy of any length, would be a call of the C library.
+#[inline(always)]
+fn put_zeros(text: &mut Vec<u8>, count: usize)
+    requires few { count < 8 }
+    requires room { vec_len text.old + count ≤ vec_capacity text.old }
+    ensures items { text.new.items ≡ text.old.items ++ replicate count 0 }
+    ensures len { vec_len text.new ≡ vec_len text.old + count }
+    ensures capacity { vec_capacity text.old ≤ vec_capacity text.new }
 {
-    let mut field = [0; 16];
-    field[skip..skip + digits.len()].copy_from_slice(digits);
-    field
-}
-
-/// A number at the end of the text: zeros, and then its digits.
-fn put_digits(text: &mut Vec<u8>, skip: usize, digits: &[u8]) -> Result<(), NoMemory>
-    requires skips { skip ≤ 8 }
-    requires numbers { length digits.now ≤ 8 }
-    ensures written { OnOk result (text.new.items ≡ text.old.items ++ replicate skip 0 ++ digits.now) }
-    ensures left { OnErr result (text.new.items ≡ text.old.items) }
-{
-    let field = padded(skip, digits);
-    text.extend_from_slice(&field[..skip + digits.len()])?;
-    Ok(())
-}
-
-/// A field of the text: zeros, then the digits of a number, then octets and the one that may end them.
-fn put(
-    text: &mut Vec<u8>,
-    skip: usize,
-    digits: &[u8],
-    octets: &[u8],
-    ending: Option<u8>,
-) -> Result<(), NoMemory>
-    requires skips { skip ≤ 8 }
-    requires numbers { length digits.now ≤ 8 }
-    requires counts { length octets.now < 2 ^ 32 }
-    ensures written { OnOk result (text.new.items ≡ text.old.items ++ replicate skip 0 ++ digits.now ++ octets.now ++ option_to_list ending) }
-    ensures left { OnErr result (text.new.items ≡ text.old.items) }
-{
-    text.reserve(skip + digits.len() + octets.len() + usize::from(ending.is_some()))?;
-    let field = padded(skip, digits);
-    text.extend_from_slice(&field[..skip + digits.len()])
-        .unwrap();
-    text.extend_from_slice(octets).unwrap();
-    if let Some(octet) = ending {
-        text.push(octet).unwrap();
+    if count >= 4 {
+        text.extend_from_slice(&[0; 4]).unwrap();
     }
-    Ok(())
+    if count % 4 >= 2 {
+        text.extend_from_slice(&[0; 2]).unwrap();
+    }
+    if count % 2 == 1 {
+        text.push(0).unwrap();
+    }
 }
 
 impl CdrWriter {
@@ -141,43 +114,74 @@ impl CdrWriter {
     }
 
     /// How many zeros lead to a multiple of this size.
+    #[inline(always)]
     fn skip(&self, size: usize) -> usize
         requires some { 0 < size }
         requires small { size ≤ 8 }
         ensures value { result ≡ padding (self.now.place + length self.now.text) size }
-        ensures small { result ≤ 8 }
+        ensures small { result < 8 }
     {
         let place = self.place as usize + self.text.len();
         (size - place % size) % size
     }
 
-    fn put(
+    /// A field of the text: zeros, then the digits of a number, then octets and the one that may end
+    /// them. All room is taken before the first of them. It is inlined so that the compiler knows the
+    /// size and the number of digits.
+    #[inline(always)]
+    fn put<const N: usize>(
         &mut self,
         size: usize,
-        digits: &[u8],
+        digits: &[u8; N],
         octets: &[u8],
         ending: Option<u8>,
     ) -> Result<(), NoMemory>
         requires some { 0 < size }
         requires small { size ≤ 8 }
-        requires numbers { length digits.now ≤ 8 }
+        requires numbers { N ≤ 8 }
         requires counts { length octets.now < 2 ^ 32 }
         ensures written { OnOk result (self.new ≡ record self.old { text = self.old.text ++ replicate (padding (self.old.place + length self.old.text) size) 0 ++ digits.now ++ octets.now ++ option_to_list ending }) }
         ensures left { OnErr result (self.new ≡ self.old) }
     {
         let skip = self.skip(size);
-        put(&mut self.text, skip, digits, octets, ending)
+        self.text
+            .reserve(skip + N + octets.len() + usize::from(ending.is_some()))?;
+        put_zeros(&mut self.text, skip);
+        self.text.extend_from_slice(digits).unwrap();
+        self.text.extend_from_slice(octets).unwrap();
+        if let Some(octet) = ending {
+            self.text.push(octet).unwrap();
+        }
+        Ok(())
     }
 
-    fn put_number(&mut self, size: usize, digits: &[u8]) -> Result<(), NoMemory>
-        requires some { 0 < size }
-        requires small { size ≤ 8 }
-        requires sized { length digits.now ≡ size }
-        ensures written { OnOk result (self.new ≡ appended (λ order place n. replicate (padding place size) 0 ++ digits.now) digits.now self.old) }
+    /// A number at a multiple of its own size. Its digits are one store; callers choose the byte order
+    /// around the call, since digits that are chosen before it are put together byte by byte.
+    #[inline(always)]
+    fn put_number<const N: usize>(&mut self, digits: &[u8; N]) -> Result<(), NoMemory>
+        requires some { 0 < N }
+        requires small { N ≤ 8 }
+        ensures written { OnOk result (self.new ≡ appended (λ order place n. replicate (padding place N) 0 ++ digits.now) digits.now self.old) }
         ensures left { OnErr result (self.new ≡ self.old) }
     {
-        let skip = self.skip(size);
-        put_digits(&mut self.text, skip, digits)
+        let skip = self.skip(N);
+        self.text.reserve(skip + N)?;
+        put_zeros(&mut self.text, skip);
+        self.text.extend_from_slice(digits).unwrap();
+        Ok(())
+    }
+
+    /// Octets and the one that may end them, behind this count.
+    #[inline(always)]
+    fn put_counted(&mut self, count: u32, octets: &[u8], ending: Option<u8>) -> Result<(), NoMemory>
+        requires { length octets.now < 2 ^ 32 }
+        ensures written { OnOk result (self.new ≡ record self.old { text = self.old.text ++ replicate (padding (self.old.place + length self.old.text) 4) 0 ++ digits_in self.old.order 4 count ++ octets.now ++ option_to_list ending }) }
+        ensures left { OnErr result (self.new ≡ self.old) }
+    {
+        match self.order {
+            Order::Big => self.put(4, &count.to_be_bytes(), octets, ending),
+            Order::Little => self.put(4, &count.to_le_bytes(), octets, ending),
+        }
     }
 
     /// An octet.
@@ -185,8 +189,7 @@ impl CdrWriter {
         ensures written { OnOk result (self.new ≡ appended (number 1).written n self.old) }
         ensures left { OnErr result (self.new ≡ self.old) }
     {
-        let digits = digits_of_u8(self.order(), n);
-        self.put_number(1, &digits)
+        self.put_number(&[n])
     }
 
     /// An unsigned short.
@@ -194,8 +197,10 @@ impl CdrWriter {
         ensures written { OnOk result (self.new ≡ appended (number 2).written n self.old) }
         ensures left { OnErr result (self.new ≡ self.old) }
     {
-        let digits = digits_of_u16(self.order(), n);
-        self.put_number(2, &digits)
+        match self.order {
+            Order::Big => self.put_number(&n.to_be_bytes()),
+            Order::Little => self.put_number(&n.to_le_bytes()),
+        }
     }
 
     /// An unsigned long.
@@ -203,8 +208,10 @@ impl CdrWriter {
         ensures written { OnOk result (self.new ≡ appended (number 4).written n self.old) }
         ensures left { OnErr result (self.new ≡ self.old) }
     {
-        let digits = digits_of_u32(self.order(), n);
-        self.put_number(4, &digits)
+        match self.order {
+            Order::Big => self.put_number(&n.to_be_bytes()),
+            Order::Little => self.put_number(&n.to_le_bytes()),
+        }
     }
 
     /// An unsigned long long.
@@ -212,8 +219,10 @@ impl CdrWriter {
         ensures written { OnOk result (self.new ≡ appended (number 8).written n self.old) }
         ensures left { OnErr result (self.new ≡ self.old) }
     {
-        let digits = digits_of_u64(self.order(), n);
-        self.put_number(8, &digits)
+        match self.order {
+            Order::Big => self.put_number(&n.to_be_bytes()),
+            Order::Little => self.put_number(&n.to_le_bytes()),
+        }
     }
 
     /// A short.
@@ -254,8 +263,7 @@ impl CdrWriter {
         ensures written { OnOk result (self.new ≡ appended octets.written content.now self.old) }
         ensures left { OnErr result (self.new ≡ self.old) }
     {
-        let digits = digits_of_u32(self.order(), content.len() as u32);
-        self.put(4, &digits, content, None)
+        self.put_counted(content.len() as u32, content, None)
     }
 
     /// A string, which is given without its NUL.
@@ -265,12 +273,13 @@ impl CdrWriter {
         ensures written { OnOk result (self.new ≡ appended text.written string.now self.old) }
         ensures left { OnErr result (self.new ≡ self.old) }
     {
-        let digits = digits_of_u32(self.order(), string.len() as u32 + 1);
-        self.put(4, &digits, string, Some(0))
+        self.put_counted(string.len() as u32 + 1, string, Some(0))
     }
 
     /// Bytes without a count, at a multiple of `align`: the body of a message, or what another writer
     /// wrote of it.
+    // Its callers name `align`, and where that is known no division is left.
+    #[inline(always)]
     pub fn write_piece(&mut self, align: usize, piece: &[u8]) -> Result<(), NoMemory>
         requires some { 0 < align }
         requires small { align ≤ 8 }
