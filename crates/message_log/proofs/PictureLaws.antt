@@ -16,7 +16,6 @@ use Rattle.reply_table.specs.declared.entries.Retained.{Retained}
 use Rattle.message_log.specs.Picture.{Picture, Reserved, length_of, AreNumbered, IsSound}
 use Rattle.message_log.specs.Calls.{reserved_of, IsReady}
 use Rattle.message_log.specs.Opening.{IsOpening}
-use Rattle.message_log.specs.declared.reservations.Reservation.{Reservation}
 use Rattle.message_log.specs.Admission.{admitted, by_room, by_found, by_key}
 use Rattle.message_log.specs.declared.answers.Admit.TheVariants.{Deposed, Expired, Full, New}
 
@@ -153,16 +152,16 @@ sound_answered newest earlier mark entries position outcome table s = record {
 pub some_is : {X : Type 0} (x y : X) → Some x ≡ Some y → x ≡ y
 some_is x y h = cc
 
-pub ready_none : (reserved : Option Reservation) (spare entries entries_room : ℕ) (table_room : Bool) → reserved ≡ None
-    → IsReady reserved spare entries entries_room table_room
-ready_none reserved spare entries entries_room table_room is =
-    subst (λ (o : Option Reservation). IsReady o spare entries entries_room table_room) (sym is) tt
+pub ready_none : (reserved : Option (List ℕ)) (retained : Option Request) (spare entries entries_room : ℕ) (table_room : Bool) → reserved ≡ None
+    → IsReady reserved retained spare entries entries_room table_room
+ready_none reserved retained spare entries entries_room table_room is =
+    subst (λ (o : Option (List ℕ)). IsReady o retained spare entries entries_room table_room) (sym is) tt
 
 -- it is what the caller says
-pub taken_is : (reserved : Option Reservation) (taken : Reservation) (wanted : Reserved) → reserved ≡ Some taken → reserved_of reserved ≡ Some wanted
-    → record { entry = taken.record; retained = taken.retained } ≡ wanted
-taken_is reserved taken wanted is h =
-    some_is (record { entry = taken.record; retained = taken.retained }) wanted (sym (ap reserved_of is) ∙ h)
+pub taken_is : (reserved : Option (List ℕ)) (retained : Option Request) (entry : List ℕ) (wanted : Reserved) → reserved ≡ Some entry → reserved_of reserved retained ≡ Some wanted
+    → record { entry = entry; retained = retained } ≡ wanted
+taken_is reserved retained entry wanted is h =
+    some_is (record { entry = entry; retained = retained }) wanted (sym (ap (λ (o : Option (List ℕ)). reserved_of o retained) is) ∙ h)
 
 -- ---- a log that is read
 

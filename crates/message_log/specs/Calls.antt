@@ -18,20 +18,20 @@ use Rattle.message_log.specs.declared.answers.Appended.{Appended}
 use Rattle.message_log.specs.declared.answers.Appended.TheVariants.{At, Failed}
 use Rattle.message_log.specs.declared.answers.LogFault.{LogFault}
 use Rattle.message_log.specs.declared.answers.LogFault.TheVariants as log_faults
-use Rattle.message_log.specs.declared.reservations.Reservation.{Reservation}
 use Rattle.message_log.specs.declared.tidying.Tidied.{Tidied}
 use Rattle.message_log.specs.declared.tidying.Tidied.TheVariants.{Cut, Uncut, Unwritten}
 
 -- ---- what was reserved
 
-abbrev pub reserved_of : Option Reservation → Option Reserved
-reserved_of None = None
-reserved_of (Some r) = Some (record { entry = r.record; retained = r.retained })
+-- with no record nothing is reserved
+abbrev pub reserved_of : Option (List ℕ) → Option Request → Option Reserved
+reserved_of None retained = None
+reserved_of (Some entry) retained = Some (record { entry = entry; retained = retained })
 
 -- where memory was taken, there is room
-abbrev pub IsReady : Option Reservation → ℕ → ℕ → ℕ → Bool → Type 0
-IsReady None spare entries entries_room table_room = Unit {0}
-IsReady (Some r) spare entries entries_room table_room = HasRoom r.retained spare entries entries_room table_room
+abbrev pub IsReady : Option (List ℕ) → Option Request → ℕ → ℕ → ℕ → Bool → Type 0
+IsReady None retained spare entries entries_room table_room = Unit {0}
+IsReady (Some entry) retained spare entries entries_room table_room = HasRoom retained spare entries entries_room table_room
 
 -- ---- a writing call leaves of the keeper
 

@@ -28,7 +28,6 @@ mod entries;
 mod laws;
 mod logs;
 mod opening;
-mod reservations;
 mod retaining;
 mod tidying;
 

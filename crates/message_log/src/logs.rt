@@ -8,8 +8,7 @@ ghost use Rattle.message_log.specs.Calls.{fresh, reserved_for, IsStarted, IsAppe
 use crate::answers::{Admit, Appended, LogFault, ReopenFault};
 use crate::entries::Entry;
 use crate::opening::{Opening, read_all};
-use crate::reservations::Reservation;
-use crate::retaining::{copy_retained, put_retained, reserve_retained};
+use crate::retaining::{put_retained, reserve_retained};
 use crate::tidying::tidy;
 use ft_base::{Bytes, JOURNAL_LIMIT, NoMemory, Outcome, Request, Tick, VIEW_LIMIT, Version, View};
 use ft_outside::{Keeper, Kept, MemKeeper};
@@ -23,6 +22,10 @@ use std::mem;
 ///
 /// Its views, its journal from the last checkpoint on, and the replies that are retained are held in
 /// memory; the keeper has the records from which they can be read again.
+///
+/// What was reserved for an entry are its record and, where the request is to be retained, a copy of it.
+/// They are two fields, since a copy is large: where there is none, the record moves alone. With no
+/// record the other field says nothing.
 #[derive(Drop)]
 pub struct Log<K: Keeper> {
     keeper: K,
@@ -33,7 +36,8 @@ pub struct Log<K: Keeper> {
     time: Tick,
     state: Option<Bytes>,
     table: ReplyTable,
-    reserved: Option<Reservation>,
+    reserved: Option<Bytes>,
+    retained: Option<Request>,
 }
 
 impl<K: Keeper> Model for Log<K> {
@@ -43,10 +47,10 @@ impl<K: Keeper> Model for Log<K> {
 
     ghost Value = { Picture };
 
-    ghost view = { λ l. record { newest = l.newest; earlier = l.earlier.items; mark = l.mark; entries = l.entries.items; time = l.time.0; state = l.state; table = l.table.entries; reserved = reserved_of l.reserved; records = K.records l.keeper; plan = K.plan l.keeper; faults = K.faults l.keeper } };
+    ghost view = { λ l. record { newest = l.newest; earlier = l.earlier.items; mark = l.mark; entries = l.entries.items; time = l.time.0; state = l.state; table = l.table.entries; reserved = reserved_of l.reserved l.retained; records = K.records l.keeper; plan = K.plan l.keeper; faults = K.faults l.keeper } };
 
     ghost invariant = { λ l. IsSound l.newest l.earlier.items l.mark (vec_len l.entries) l.table.entries
-        × IsReady l.reserved (K.spare l.keeper) (vec_len l.entries) (vec_capacity l.entries) l.table.room };
+        × IsReady l.reserved l.retained (K.spare l.keeper) (vec_len l.entries) (vec_capacity l.entries) l.table.room };
 }
 
 /// Pushes where there is room.
@@ -107,6 +111,7 @@ impl<K: Keeper> Log<K> {
             state: None,
             table: ReplyTable::new(alloc),
             reserved: None,
+            retained: None,
         })
     }
 
@@ -140,6 +145,7 @@ impl<K: Keeper> Log<K> {
             state,
             table,
             reserved: None,
+            retained: None,
         })
     }
 
@@ -159,6 +165,7 @@ impl<K: Keeper> Log<K> {
             state: _state,
             table: _table,
             reserved: _reserved,
+            retained: _retained,
         } = self;
         keeper
     }
@@ -281,11 +288,10 @@ impl<K: Keeper> Log<K> {
         let position = self.length();
         let at = Tick(clock.0.max(self.time.0));
         let record = entry_record(alloc, position, version, at, request)?;
-        let retained = copy_retained(alloc, request)?;
         self.keeper.reserve(alloc, 1)?;
         self.entries.reserve(1)?;
-        reserve_retained(&mut self.table, &retained)?;
-        self.reserved = Some(Reservation { record, retained });
+        reserve_retained(alloc, &mut self.table, &mut self.retained, request)?;
+        self.reserved = Some(record);
         Ok(())
     }
 
@@ -298,13 +304,13 @@ impl<K: Keeper> Log<K> {
     {
         let position = self.length();
         let at = Tick(clock.0.max(self.time.0));
-        let Some(taken) = self.reserved.take() else {
+        let Some(record) = self.reserved.take() else {
             unreachable!()
         };
-        match self.keeper.append(taken.record) {
+        match self.keeper.append(record) {
             Kept::Failed => Appended::Failed,
             Kept::Done => {
-                put_retained(&mut self.table, position, version, at, taken.retained);
+                put_retained(&mut self.table, position, version, at, &mut self.retained);
                 push_within(&mut self.entries, Entry::new(at, request));
                 self.time = at;
                 Appended::At(position)

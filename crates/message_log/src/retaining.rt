@@ -1,5 +1,6 @@
-//! What the table of replies is given of a request: nothing of one without a key.
-ghost use Rattle.std.specs.Prelude.{◌≡◌, true, IfOk, OnOk};
+//! What the table of replies is given of a request: nothing of one without a key. A copy is large, so it
+//! stays where it is until there is one to be moved, and that is done in calls of their own.
+ghost use Rattle.std.specs.Prelude.{◌≡◌, true, Some, OnOk, OnErr};
 ghost use Rattle.reply_table.specs.Entries.{unanswered, joined, IsAfter};
 ghost use Rattle.message_log.specs.Picture.{HasRow};
 ghost use Rattle.message_log.specs.Calls.{retained_of};
@@ -8,31 +9,65 @@ use ft_base::{NoMemory, Request, Tick, Version};
 use reply_table::ReplyTable;
 use std::alloc::Global;
 
-/// A copy of a request, where it is to be retained.
-pub(crate) fn copy_retained(alloc: Global, request: &Request) -> Result<Option<Request>, NoMemory>
-    ensures { IfOk result (λ retained. retained ≡ retained_of request.now request.now.key) }
-{
-    match &request.key {
-        None => Ok(None),
-        Some(_key) => {
-            let retained = request.copy(alloc)?;
-            Ok(Some(retained))
-        }
-    }
-}
-
-/// Makes room for what is to be retained.
-pub(crate) fn reserve_retained(
+/// Copies a request, and makes room for it in the table.
+#[inline(never)]
+fn reserve_copy(
+    alloc: Global,
     table: &mut ReplyTable,
-    retained: &Option<Request>,
+    retained: &mut Option<Request>,
+    request: &Request,
 ) -> Result<(), NoMemory>
-    ensures room { OnOk result (HasRow retained.now table.new.room) }
+    ensures value { OnOk result (retained.new ≡ Some request.now) }
+    ensures room { OnOk result (table.new.room ≡ true) }
+    ensures left { OnErr result (retained.new ≡ retained.old) }
     ensures entries { table.new.entries ≡ table.old.entries }
     ensures stays { table.old.room ≡ true → table.new.room ≡ true }
 {
-    match retained {
-        None => Ok(()),
-        Some(_request) => table.reserve(),
+    let copied = request.copy(alloc)?;
+    table.reserve()?;
+    *retained = Some(copied);
+    Ok(())
+}
+
+/// Copies a request where it is to be retained, and makes room for that. After want of memory the table
+/// may have room all the same.
+pub(crate) fn reserve_retained(
+    alloc: Global,
+    table: &mut ReplyTable,
+    retained: &mut Option<Request>,
+    request: &Request,
+) -> Result<(), NoMemory>
+    ensures value { OnOk result (retained.new ≡ retained_of request.now request.now.key) }
+    ensures room { OnOk result (HasRow retained.new table.new.room) }
+    ensures left { OnErr result (retained.new ≡ retained.old) }
+    ensures entries { table.new.entries ≡ table.old.entries }
+    ensures stays { table.old.room ≡ true → table.new.room ≡ true }
+{
+    match &request.key {
+        None => {
+            *retained = None;
+            Ok(())
+        }
+        Some(_key) => reserve_copy(alloc, table, retained, request),
+    }
+}
+
+/// Moves a request that is retained into the table, where there is one.
+#[inline(never)]
+fn put_copy(
+    table: &mut ReplyTable,
+    position: u32,
+    version: Version,
+    at: Tick,
+    retained: &mut Option<Request>,
+)
+    requires room { HasRow retained.old table.old.room }
+    requires later { IsAfter position table.old.entries }
+    ensures { (request : Request) → retained.old ≡ retained_of request request.key → table.new.entries ≡ joined table.old.entries (unanswered position version at request) request.key }
+{
+    match retained.take() {
+        None => {}
+        Some(request) => table.put_reserved(position, version, at, request),
     }
 }
 
@@ -42,14 +77,14 @@ pub(crate) fn put_retained(
     position: u32,
     version: Version,
     at: Tick,
-    retained: Option<Request>,
+    retained: &mut Option<Request>,
 )
-    requires room { HasRow retained table.old.room }
+    requires room { HasRow retained.old table.old.room }
     requires later { IsAfter position table.old.entries }
-    ensures { (request : Request) → retained ≡ retained_of request request.key → table.new.entries ≡ joined table.old.entries (unanswered position version at request) request.key }
+    ensures { (request : Request) → retained.old ≡ retained_of request request.key → table.new.entries ≡ joined table.old.entries (unanswered position version at request) request.key }
 {
     match retained {
         None => {}
-        Some(request) => table.put_reserved(position, version, at, request),
+        Some(_copy) => put_copy(table, position, version, at, retained),
     }
 }

@@ -1,4 +1,4 @@
-use Rattle.std.proofs.Common.{◌≡◌, ℕ, ◌+◌, ◌<◌, List, [], ◌∷◌, ◌++◌, ap, sym, ◌∙◌, arith, max}
+use Rattle.std.proofs.Common.{◌≡◌, ℕ, ◌+◌, ◌<◌, List, [], ◌∷◌, ◌++◌, ap, sym, ◌∙◌, arith, max, Option}
 use Rattle.std.specs.Prelude.{vec_len, vec_capacity, length}
 use Rattle.ft_base.specs.Journal.{Entry}
 use Rattle.ft_base.specs.declared.limits.TheConstants.{JOURNAL_LIMIT}
@@ -17,21 +17,21 @@ invariant_of-self-in-Done g c =
     let position : c.length-position.result ≡ l.mark + vec_len l.entries = c.length-position.ensures.value ∙ long in
     let new = new_has_room c.args.self.now c.args.version.0 c.args.clock.0 c.args.request c.requires.new in
     let room : l.mark + vec_len l.entries < JOURNAL_LIMIT = omega (arith, new, long) in
-    let asked = taken_is l.reserved c.in-Some.taken (reserved_for c.args.self.now c.args.version c.args.clock c.args.request) (sym c.take.ensures.value ∙ c.in-Some.is)
+    let asked = taken_is l.reserved l.retained c.in-Some.record (reserved_for c.args.self.now c.args.version c.args.clock c.args.request) (sym c.take.ensures.value ∙ c.in-Some.is)
     (ap (λ (p : Picture). p.reserved) c.self.view_is ∙ c.requires.reserved)
     in
     let row = unanswered c.length-position.result c.args.version (record { 0 = c.max.result }) c.args.request in (
       sound_appended l.newest l.earlier.items l.mark (vec_len l.entries) (vec_len c.push_within.new.items) l.table.entries c.put_retained.new.table.entries
           row c.args.request.key c.self.invariant.0 room position c.push_within.ensures.len
           (c.put_retained.ensures c.args.request (ap (λ (r : Reserved). r.retained) asked)),
-      ready_none c.take.new.self (g.K.Keeper.spare c.append.new.self) (vec_len c.push_within.new.items) (vec_capacity c.push_within.new.items) c.put_retained.new.table.room
+      ready_none c.take.new.self c.put_retained.new.retained (g.K.Keeper.spare c.append.new.self) (vec_len c.push_within.new.items) (vec_capacity c.push_within.new.items) c.put_retained.new.table.room
           c.take.ensures.after,
     )
 
 pub returns-in-Done : goal.returns-in-Done
 returns-in-Done g c =
     let l = c.self.inside in
-    let asked = taken_is l.reserved c.in-Some.taken (reserved_for c.args.self.now c.args.version c.args.clock c.args.request) (sym c.take.ensures.value ∙ c.in-Some.is)
+    let asked = taken_is l.reserved l.retained c.in-Some.record (reserved_for c.args.self.now c.args.version c.args.clock c.args.request) (sym c.take.ensures.value ∙ c.in-Some.is)
     (ap (λ (p : Picture). p.reserved) c.self.view_is ∙ c.requires.reserved)
     in
     let position : c.length-position.result ≡ l.mark + length l.entries.items = c.length-position.ensures.value ∙ ap length_of (sym c.self.view_is) in
@@ -48,9 +48,9 @@ returns-in-Done g c =
     let written = ap (λ (r : Reserved). r.entry) asked
     ∙ ap (λ (p : Picture). entry_record (accepted_by p c.args.version c.args.clock c.args.request)) (sym c.self.view_is)
     in
-    let kept : g.K.Keeper.records c.append.new.self ≡ g.K.Keeper.records l.keeper ++ c.in-Some.taken.record ∷ [] = c.in-Done.ensures.records in
+    let kept : g.K.Keeper.records c.append.new.self ≡ g.K.Keeper.records l.keeper ++ c.in-Some.record ∷ [] = c.in-Done.ensures.records in
     let records = kept ∙ ap (λ (r : List ℕ). g.K.Keeper.records l.keeper ++ r ∷ []) written in
-    let reserved = ap reserved_of c.take.ensures.after in
+    let reserved = ap (λ (o : Option (List ℕ)). reserved_of o c.put_retained.new.retained) c.take.ensures.after in
     let plan = c.in-Done.ensures.plan in
     let faults = c.in-Done.ensures.faults in
     rw (← c.self.view_is) (

@@ -14,6 +14,6 @@ invariant_of-self g c =
     let room = ap (λ (t : Table). t.room) c.set_reply.ensures in (
       subst (λ (rs : List Retained). IsSound l.newest l.earlier.items l.mark (vec_len l.entries) rs) (sym entries)
           (sound_answered l.newest l.earlier.items l.mark (vec_len l.entries) c.args.position c.args.outcome l.table.entries c.self.invariant.0),
-      subst (λ (b : Bool). IsReady l.reserved (g.K.Keeper.spare l.keeper) (vec_len l.entries) (vec_capacity l.entries) b) (sym room)
+      subst (λ (b : Bool). IsReady l.reserved l.retained (g.K.Keeper.spare l.keeper) (vec_len l.entries) (vec_capacity l.entries) b) (sym room)
           c.self.invariant.1,
     )
