@@ -9,3 +9,4 @@ pub mod OptionLemmas
 pub mod ArgumentLemmas
 pub mod SplitLemmas
 pub mod CommentLemmas
+pub mod DigitLemmas

@@ -1,6 +1,6 @@
 -- What is of a form is read.
 use Rattle.std.proofs.Common.{◌≡◌, ℕ, ◌≤◌, ◌<◌, ◌^◌, ◌==◌, ◌∙◌, true, false, List, [], ◌∷◌, length, Option, Some, Ok, Err, arith, nat_lt, sym, ap, subst, refl}
-use Rattle.std.specs.Prelude.{codes, option_and_then}
+use Rattle.std.specs.Prelude.{option_and_then}
 use Rattle.std.specs.List.{AllZip}
 use Rattle.std.proofs.lemmas.Bool.Decides.{nat_tests}
 use Rattle.ft_base.specs.declared.decisions.Stop.{Stop}

@@ -4,12 +4,12 @@ ghost use Rattle.ft_base.specs.Text.{zero_place};
 ghost use Rattle.fault_script.specs.Faults.{IsAnswer};
 ghost use Rattle.fault_script.specs.Arguments.{argument, argument_from, arguments, parameters, spelled_arguments, call_words_from, call_words_of, IsFound, octets_of};
 
+use crate::hexadecimal::decode;
 use crate::lines::{LineFault, Words};
 use crate::numerals::{read_i64, read_u32};
 use crate::options::read_options;
 use cdr_codec::canonical;
 use ft_base::{Bytes, NoMemory, Par, Retention, Signature, Tick, Value};
-use hex::FromHexError;
 use std::alloc::Global;
 
 /// The most bytes that a length field counts, a text's NUL among them.
@@ -40,16 +40,11 @@ pub(crate) fn read_octets(alloc: Global, word: &[u8]) -> Result<Vec<u8>, LineFau
     if word == b"-".as_slice() {
         return Ok(Vec::new(alloc));
     }
-    match hex::decode(alloc, word) {
-        Ok(octets) => {
-            if octets.as_slice().len() > LENGTH_LIMIT {
-                return Err(LineFault::Syntax);
-            }
-            Ok(octets)
-        }
-        Err(FromHexError::OutOfMemory) => Err(LineFault::NoMemory),
-        Err(_) => Err(LineFault::Syntax),
+    let octets = decode(alloc, word)?;
+    if octets.len() > LENGTH_LIMIT {
+        return Err(LineFault::Syntax);
     }
+    Ok(octets)
 }
 
 /// The value of this type that a word is.

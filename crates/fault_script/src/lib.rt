@@ -14,6 +14,7 @@
 mod arguments;
 mod criteria;
 mod forms;
+mod hexadecimal;
 mod lines;
 mod monitors;
 mod names;
