@@ -12,6 +12,7 @@
 //! ```
 #![tactic(auto)]
 
+mod hexadecimal;
 mod histories;
 mod outcomes;
 mod parts;

@@ -1,12 +1,12 @@
 //! The parts of a line: words and phrases, each as its text.
 ghost use Rattle.std.specs.Prelude.{◌≡◌, ◌++◌, ◌∷◌, [], IfOk, OnOk};
-ghost use Rattle.ft_report.specs.Words.{octets_text, phrase_text};
+ghost use Rattle.ft_report.specs.Words.{phrase_text};
 ghost use Rattle.ft_report.specs.Report.{completed_text, decision_text, end_text, fault_text, ignored_text, kind_text, outcome_text, own_fault, refusal_text, role_text, setting_text, standing_text, subscribe_text, why_text, with_number, with_numbers, with_version, worded_numbers, worth_text};
 
 use crate::outcomes::{ReportOutcome, Worth};
 use crate::reports::{CallEnd, Role, SettingFault, Standing, SubscribeFault};
 use crate::words::Word::{Fixed, Made, Number, Text};
-use crate::words::{octets, phrase, push_numbered, push_phrase, push_signed};
+use crate::words::{octets, phrase, push_numbered, push_octets, push_phrase, push_signed};
 use ft_base::{Bytes, Decision, HostNo, Ignored, Name, NoMemory, Version};
 use giop_messages::Why;
 use group_model::ManageFault;
@@ -54,15 +54,7 @@ pub fn why_bytes(why: Why) -> &'static [u8]
     }
 }
 
-fn push_octets(text: &mut Vec<u8>, alloc: Global, bytes: &Bytes) -> Result<(), NoMemory>
-    ensures { OnOk result (text.new.items ≡ text.old.items ++ octets_text bytes.now) }
-{
-    let octets = octets(alloc, bytes)?;
-    text.extend_from_slice(octets.bytes())?;
-    Ok(())
-}
-
-fn push_worth(text: &mut Vec<u8>, alloc: Global, worth: &Worth) -> Result<(), NoMemory>
+fn push_worth(text: &mut Vec<u8>, worth: &Worth) -> Result<(), NoMemory>
     ensures { OnOk result (text.new.items ≡ text.old.items ++ worth_text worth.now) }
 {
     match worth {
@@ -70,15 +62,15 @@ fn push_worth(text: &mut Vec<u8>, alloc: Global, worth: &Worth) -> Result<(), No
         Worth::Number(number) => push_signed(text, *number),
         Worth::Flag(true) => push_phrase(text, &[Fixed(b"true")]),
         Worth::Flag(false) => push_phrase(text, &[Fixed(b"false")]),
-        Worth::Octets(bytes) => push_octets(text, alloc, bytes),
+        Worth::Octets(bytes) => push_octets(text, bytes.bytes()),
     }
 }
 
-fn push_kind(text: &mut Vec<u8>, alloc: Global, kind: &SysKind) -> Result<(), NoMemory>
+fn push_kind(text: &mut Vec<u8>, kind: &SysKind) -> Result<(), NoMemory>
     ensures { OnOk result (text.new.items ≡ text.old.items ++ kind_text kind.now) }
 {
     if let SysKind::Unknown(id) = kind {
-        return push_octets(text, alloc, id);
+        return push_octets(text, id.bytes());
     }
     match kind.name() {
         Some(name) => push_phrase(text, &[Text(name)]),
@@ -105,12 +97,12 @@ pub fn with_version(
     )
 }
 
-fn push_fault(text: &mut Vec<u8>, alloc: Global, fault: &SysFault) -> Result<(), NoMemory>
+fn push_fault(text: &mut Vec<u8>, fault: &SysFault) -> Result<(), NoMemory>
     ensures { OnOk result (text.new.items ≡ text.old.items ++ fault_text fault.now) }
 {
     push_phrase(text, &[Fixed(b"system")])?;
     text.push(b' ')?;
-    push_kind(text, alloc, &fault.kind)?;
+    push_kind(text, &fault.kind)?;
     text.push(b' ')?;
     push_phrase(
         text,
@@ -150,10 +142,10 @@ pub fn push_outcome(
     match shown {
         ReportOutcome::Value(worth) => {
             text.extend_from_slice(b"value ")?;
-            push_worth(text, alloc, worth)
+            push_worth(text, worth)
         }
         ReportOutcome::User(name) => push_phrase(text, &[Fixed(b"user"), Text(name.bytes())]),
-        ReportOutcome::System(fault) => push_fault(text, alloc, fault),
+        ReportOutcome::System(fault) => push_fault(text, fault),
         ReportOutcome::Forward { group, version } => push_version(
             text, b"forward", group, *version,
         ),
@@ -271,7 +263,7 @@ fn push_own(
 ) -> Result<(), NoMemory>
     ensures { OnOk result (text.new.items ≡ text.old.items ++ phrase_text (fault_text fault.now ∷ worded_numbers first_word.now first second_word.now second ∷ [])) }
 {
-    push_fault(text, alloc, fault)?;
+    push_fault(text, fault)?;
     text.push(b' ')?;
     push_phrase(
         text,
@@ -308,7 +300,7 @@ pub fn push_end(text: &mut Vec<u8>, alloc: Global, end: &CallEnd) -> Result<(), 
                 profiles,
             )
         }
-        CallEnd::IdsSpent => push_fault(text, alloc, &own_fault(SysKind::ImpLimit, 3)),
+        CallEnd::IdsSpent => push_fault(text, &own_fault(SysKind::ImpLimit, 3)),
     }
 }
 

@@ -14,7 +14,7 @@ use crate::showing::{
 };
 use crate::transfers::{checkpoint_line, updated_line};
 use crate::words::Word::{Fixed, Host, Location, Made, Number, Text};
-use crate::words::{hosts, octets, phrase, push_line, push_named, push_numbered};
+use crate::words::{hosts, phrase, push_line, push_named, push_numbered, push_octets};
 use ft_base::{Bytes, Decision, GroupId, HostNo, Ignored, Members, Name, NoMemory, Version};
 use giop_messages::Why;
 use group_model::ManageFault;
@@ -513,9 +513,8 @@ fn fault_line<'a>(
 pub fn bytes_line(text: &mut Vec<u8>, alloc: Global, written: &Bytes) -> Result<(), NoMemory>
     ensures { OnOk result (text.new.items ≡ text.old.items ++ report_text (ReportLine.Bytes written.now)) }
 {
-    let written = octets(alloc, written)?;
     text.extend_from_slice(b"bytes ")?;
-    text.extend_from_slice(written.bytes())?;
+    push_octets(text, written.bytes())?;
     end_line(text)
 }
 

@@ -3,6 +3,7 @@ ghost use Rattle.std.specs.Fmt.{signed_decimal};
 ghost use Rattle.std.specs.List.{flat_map};
 ghost use Rattle.ft_report.specs.Words.{hosts_text, joined_text, line, octets_text, phrase_text, word_text};
 
+use crate::hexadecimal::push_hexadecimal;
 use ft_base::{Bytes, HostNo, Members, Name, NoMemory};
 use itoa::Buffer;
 use std::alloc::Global;
@@ -160,14 +161,22 @@ pub fn hosts(alloc: Global, members: &Members) -> Result<Bytes, NoMemory>
     Ok(Bytes::from_vec(text))
 }
 
+/// Writes octets in hexadecimal; `-` for none.
+pub fn push_octets(text: &mut Vec<u8>, octets: &[u8]) -> Result<(), NoMemory>
+    ensures { OnOk result (text.new.items ≡ text.old.items ++ octets_text octets.now) }
+{
+    if octets.is_empty() {
+        text.push(b'-')?;
+        return Ok(());
+    }
+    push_hexadecimal(text, octets)
+}
+
 /// Octets in hexadecimal; `-` for none.
 pub fn octets(alloc: Global, bytes: &Bytes) -> Result<Bytes, NoMemory>
     ensures { IfOk result (λ text. text ≡ octets_text bytes.now) }
 {
-    let octets = bytes.bytes();
-    if octets.is_empty() {
-        return Bytes::of(alloc, b"-");
-    }
-    let text = hex::encode(alloc, octets)?;
-    Ok(Bytes::from_vec(text.into_bytes()))
+    let mut text = Vec::new(alloc);
+    push_octets(&mut text, bytes.bytes())?;
+    Ok(Bytes::from_vec(text))
 }
