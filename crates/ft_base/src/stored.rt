@@ -110,6 +110,20 @@ impl Stored {
         }
     }
 
+    /// The bytes as a vector. Only a short text takes memory.
+    pub(crate) fn into_vec(self, alloc: Global) -> Result<Vec<u8>, NoMemory>
+        ensures { IfOk result (λ vec. vec.items ≡ self) }
+    {
+        let Stored { kept } = self;
+        match kept {
+            Kept::Here(short) => {
+                let bytes = Vec::from_slice(alloc, short.as_slice())?;
+                Ok(bytes)
+            }
+            Kept::Apart(bytes) => Ok(bytes),
+        }
+    }
+
     /// The bytes themselves.
     #[inline]
     pub(crate) fn as_slice(&self) -> &[u8]

@@ -129,6 +129,13 @@ impl Bytes {
         self.bytes.as_slice()
     }
 
+    /// The bytes as a vector. Only a few of them take memory: more lie in one already.
+    pub fn into_vec(self, alloc: Global) -> Result<Vec<u8>, NoMemory>
+        ensures { IfOk result (λ vec. vec.items ≡ self) }
+    {
+        self.bytes.into_vec(alloc)
+    }
+
     /// Whether two are the same bytes.
     pub fn is(&self, other: &Bytes) -> bool
         ensures { result ≡ bytes_eq self.now other.now }

@@ -150,11 +150,11 @@ stepped_fails f k g h fault e w l took =
 
 -- ---- the bytes so far
 
-pub stands_new : (f : Frames) → f.rest ≡ [] → f.begun ≡ [] → f.stopped ≡ None → Stands f [] []
-stands_new f r b e =
+pub stands_over : (f : Frames) (fed : List ℕ) → f.rest ≡ fed → f.begun ≡ [] → f.stopped ≡ None → Stands f fed []
+stands_over f fed r b e =
     record {
       on = λ more.
-          ap (λ (os : List Begun). stream_on os more) (sym b)
+          ap (λ (os : List Begun). stream_on os (fed ++ more)) (sym b)
           ∙ ap (λ (rest : List ℕ). stream_on f.begun (rest ++ more)) (sym r)
           ∙ sym (resumed f more e);
     }

@@ -93,8 +93,8 @@ ends_by t fed given end e on = (
 
 -- ---- one step
 
-pub serves_new : (s : Serving) → s.ended ≡ None → Stands s.frames [] [] → Serves s [] []
-serves_new s e h = serves_by s [] [] e (λ more. ap session_of (h.on more)) h
+pub serves_over : (s : Serving) (fed : List ℕ) → s.ended ≡ None → Stands s.frames fed [] → Serves s fed []
+serves_over s fed e h = serves_by s fed [] e (λ more. ap session_of (h.on more)) h
 
 pub serves_fed : (s t : Serving) (fed piece : List ℕ) (given : List Received) → s.ended ≡ None → t.ended ≡ s.ended
     → ((given : List Received) → Stands s.frames fed given → Stands t.frames (fed ++ piece) given) → Serves s fed given → Serves t (fed ++ piece) given

@@ -41,13 +41,11 @@ fn forget(bytes: &mut Vec<u8>, count: usize)
 }
 
 impl Buffer {
-    pub fn new(alloc: Global) -> Buffer
-        ensures { result ≡ record { unused = []; used = 0 } }
+    /// These bytes, none of which was taken. They stay where they are.
+    pub fn over(bytes: Vec<u8>) -> Buffer
+        ensures { result ≡ record { unused = bytes.items; used = 0 } }
     {
-        Buffer {
-            bytes: Vec::new(alloc),
-            start: 0,
-        }
+        Buffer { bytes, start: 0 }
     }
 
     /// The bytes that are left.

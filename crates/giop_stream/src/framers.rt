@@ -226,13 +226,20 @@ impl Framer {
     }
 
     /// A framer of a link of which no byte has come. It takes no memory.
-    #[tactic(auto, using(crate::proofs::FrameLaws::stands_new, crate::proofs::FrameLaws::kept_anew))]
     pub fn new(alloc: Global) -> Framer
         ensures { Stands result [] [] }
     {
+        Framer::over(alloc, Vec::new(alloc))
+    }
+
+    /// A framer that was fed these bytes. It takes no memory, and keeps them where they are.
+    #[tactic(auto, using(crate::proofs::FrameLaws::stands_over, crate::proofs::FrameLaws::kept_anew))]
+    pub fn over(alloc: Global, bytes: Vec<u8>) -> Framer
+        ensures { Stands result bytes.items [] }
+    {
         Framer {
             alloc,
-            buffer: Buffer::new(alloc),
+            buffer: Buffer::over(bytes),
             partials: Partials::new(alloc),
             head: None,
             need: 0,

@@ -182,12 +182,19 @@ impl Session {
     }
 
     /// A session over a link of which no byte has come. It takes no memory.
-    #[tactic(auto, using(crate::proofs::SessionLaws::serves_new))]
     pub fn new(alloc: Global) -> Session
         ensures { Serves result [] [] }
     {
+        Session::over(alloc, Vec::new(alloc))
+    }
+
+    /// A session over a link of which these bytes have come. It takes no memory, and keeps them where they are.
+    #[tactic(auto, using(crate::proofs::SessionLaws::serves_over))]
+    pub fn over(alloc: Global, bytes: Vec<u8>) -> Session
+        ensures { Serves result bytes.items [] }
+    {
         Session {
-            framer: Framer::new(alloc),
+            framer: Framer::over(alloc, bytes),
             ended: None,
         }
     }
