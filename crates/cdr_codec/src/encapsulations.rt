@@ -17,8 +17,7 @@ pub fn begin_encapsulation(alloc: Global, order: Order) -> Result<CdrWriter, NoM
     ensures begun { IfOk result (λ writer. writer ≡ begun order) }
     ensures encapsulated { IfOk result IsEncapsulated }
 {
-    let mut writer = CdrWriter::new(alloc, order, 0);
-    writer.reserve(ENCAPSULATION_ROOM)?;
+    let mut writer = CdrWriter::with_room(alloc, order, 0, ENCAPSULATION_ROOM)?;
     writer.write_octet(order.sign())?;
     Ok(writer)
 }

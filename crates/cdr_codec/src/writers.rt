@@ -1,4 +1,4 @@
-ghost use Rattle.std.specs.Prelude.{◌≡◌, ◌≤◌, ◌<◌, ◌+◌, ◌^◌, ℕ, List, [], ◌∷◌, ◌++◌, length, replicate, take, slice_get, None, OnOk, OnErr, vec_len, vec_capacity};
+ghost use Rattle.std.specs.Prelude.{◌≡◌, ◌≤◌, ◌<◌, ◌+◌, ◌^◌, ℕ, List, [], ◌∷◌, ◌++◌, length, replicate, take, slice_get, None, IfOk, OnOk, OnErr, vec_len, vec_capacity};
 ghost use Rattle.std.specs.Int.{w16, w32, w64};
 ghost use Rattle.std.specs.Option.{option_to_list};
 ghost use Rattle.ft_base.specs.Canonical.{padding};
@@ -64,6 +64,19 @@ impl CdrWriter {
         }
     }
 
+    /// The same, with room for so many bytes, so that they need no memory of their own.
+    pub fn with_room(
+        alloc: Global,
+        order: Order,
+        place: u32,
+        room: usize,
+    ) -> Result<CdrWriter, NoMemory>
+        ensures { IfOk result (λ writer. writer ≡ record { order = order; place = place; text = [] }) }
+    {
+        let text = Vec::with_capacity(alloc, room)?;
+        Ok(CdrWriter { order, place, text })
+    }
+
     /// The byte order.
     pub fn order(&self) -> Order
         ensures { result ≡ self.now.order }
@@ -76,15 +89,6 @@ impl CdrWriter {
         ensures { result.now ≡ self.now.text }
     {
         self.text.as_slice()
-    }
-
-    /// Takes room for so many bytes more, so that they need no memory of their own.
-    pub fn reserve(&mut self, more: usize) -> Result<(), NoMemory>
-        requires { more < 2 ^ 40 }
-        ensures { self.new ≡ self.old }
-    {
-        self.text.reserve(more)?;
-        Ok(())
     }
 
     /// The text. It takes no memory.

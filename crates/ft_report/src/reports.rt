@@ -384,11 +384,11 @@ impl Model for ReportLines {
 const REPORT_ROOM: usize = 128;
 
 // Where a line is the first, takes room for it and some more.
-fn room_of_first(text: &mut Vec<u8>) -> Result<(), NoMemory>
+fn room_of_first(text: &mut Vec<u8>, alloc: Global) -> Result<(), NoMemory>
     ensures { OnOk result (text.new.items ≡ text.old.items) }
 {
     if text.is_empty() {
-        text.reserve(REPORT_ROOM)?;
+        *text = Vec::with_capacity(alloc, REPORT_ROOM)?;
     }
     Ok(())
 }
@@ -418,7 +418,7 @@ impl ReportLines {
     pub fn push(&mut self, line: ReportLine) -> Result<(), NoMemory>
         ensures { OnOk result (self.new ≡ self.old ++ line ∷ []) }
     {
-        let room = room_of_first(&mut self.text);
+        let room = room_of_first(&mut self.text, self.alloc);
         if room.is_err() || write_line(&mut self.text, self.alloc, &line).is_err() {
             clear(&mut self.text, &mut self.written);
             return Err(NoMemory);
@@ -436,7 +436,7 @@ impl ReportLines {
     ) -> Result<(), NoMemory>
         ensures { OnOk result (self.new ≡ self.old ++ ReportLine.At host group.now decision ∷ []) }
     {
-        let room = room_of_first(&mut self.text);
+        let room = room_of_first(&mut self.text, self.alloc);
         if room.is_err() || at_line(&mut self.text, self.alloc, host, group, decision).is_err() {
             clear(&mut self.text, &mut self.written);
             return Err(NoMemory);
@@ -456,7 +456,7 @@ impl ReportLines {
     ) -> Result<(), NoMemory>
         ensures { OnOk result (self.new ≡ self.old ++ ReportLine.Reply message host client.now id shown.now ∷ []) }
     {
-        let room = room_of_first(&mut self.text);
+        let room = room_of_first(&mut self.text, self.alloc);
         if room.is_err()
             || reply_line(&mut self.text, self.alloc, message, host, client, id, shown).is_err()
         {
@@ -471,7 +471,7 @@ impl ReportLines {
     pub fn push_bytes(&mut self, bytes: &Bytes) -> Result<(), NoMemory>
         ensures { OnOk result (self.new ≡ self.old ++ ReportLine.Bytes bytes.now ∷ []) }
     {
-        let room = room_of_first(&mut self.text);
+        let room = room_of_first(&mut self.text, self.alloc);
         if room.is_err() || bytes_line(&mut self.text, self.alloc, bytes).is_err() {
             clear(&mut self.text, &mut self.written);
             return Err(NoMemory);

@@ -228,8 +228,7 @@ pub fn begin_message(
     requires { room < 2 ^ 39 }
     ensures { IfOk result (λ writer. writer ≡ begun_message order kind) }
 {
-    let mut writer = CdrWriter::new(alloc, order, 0);
-    writer.reserve(HEAD_LENGTH + room)?;
+    let mut writer = CdrWriter::with_room(alloc, order, 0, HEAD_LENGTH + room)?;
     let order = order.sign();
     let front = [
         b'G',

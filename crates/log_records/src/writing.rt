@@ -7,13 +7,24 @@ ghost use Rattle.reply_table.specs.Entries.{is_unexpired, unexpired};
 ghost use Rattle.log_records.specs.Records as forms;
 ghost use Rattle.log_records.specs.Records.{entry_record, view_record, checkpoint_record, begun};
 
-use cdr_codec::{CdrWriter, Order, begin_encapsulation};
-use ft_base::{Bytes, HostNo, Key, NoMemory, Outcome, Request, Tick, Version, View};
+use cdr_codec::{CdrWriter, Order};
+use ft_base::{
+    ARGUMENTS_LIMIT, Bytes, HostNo, Key, NoMemory, Outcome, Request, Tick, Version, View,
+};
 use reply_table::{ReplyTable, Retained};
 use std::alloc::Global;
 
 /// The places of a record are unsigned longs, and so it has fewer bytes than this.
 pub(crate) const RECORD_LIMIT: usize = 0xFFFF_FFF8;
+
+/// Room for the numbers, counts and paddings of an entry without a key.
+const ENTRY_ROOM: usize = 40;
+
+/// Room for those of a key.
+const KEY_ROOM: usize = 24;
+
+/// Most views, and checkpoints of a small state, are no longer.
+const RECORD_ROOM: usize = 96;
 
 /// The form's octet of each record.
 pub(crate) const ENTRY: u8 = 1;
@@ -88,11 +99,12 @@ fn write_entry(
     Ok(())
 }
 
-/// A writer that began a record of a form.
-fn begin(alloc: Global, form: u8) -> Result<CdrWriter, NoMemory>
+/// A writer that began a record of a form, with room for so many bytes.
+fn begin(alloc: Global, form: u8, room: usize) -> Result<CdrWriter, NoMemory>
     ensures { IfOk result (λ writer. writer ≡ begun form) }
 {
-    let mut writer = begin_encapsulation(alloc, Order::Big)?;
+    let mut writer = CdrWriter::with_room(alloc, Order::Big, 0, room)?;
+    writer.write_octet(Order::Big.sign())?;
     writer.write_octet(form)?;
     Ok(writer)
 }
@@ -108,6 +120,17 @@ fn finish(writer: CdrWriter) -> Result<Bytes, NoMemory>
     Ok(writer.finish())
 }
 
+/// Room for the record of this request: all of its bytes where its arguments are not too long for a request. It
+/// stays as long as its entry, so that a byte too many costs a journal one for each of its entries.
+fn entry_room(request: &Request) -> usize {
+    let client = match &request.key {
+        None => 0,
+        Some(key) => KEY_ROOM + key.client.bytes().len(),
+    };
+    let args = request.args.bytes().len().min(ARGUMENTS_LIMIT);
+    ENTRY_ROOM + client + request.op.bytes().len() + args
+}
+
 /// The record of an accepted request.
 #[tactic(auto, using(crate::proofs::WritingLaws::formed_written), unfolding(crate::specs::Records::entry_record))]
 pub fn entry_record(
@@ -119,7 +142,7 @@ pub fn entry_record(
 ) -> Result<Bytes, NoMemory>
     ensures { IfOk result (λ bytes. bytes ≡ entry_record (record { position = position; version = version; at = at; request = request.now })) }
 {
-    let mut writer = begin(alloc, ENTRY)?;
+    let mut writer = begin(alloc, ENTRY, entry_room(request))?;
     write_entry(&mut writer, position, version, at, request)?;
     finish(writer)
 }
@@ -151,7 +174,7 @@ fn write_view(writer: &mut CdrWriter, view: &View) -> Result<(), NoMemory>
 pub fn view_record(alloc: Global, view: &View) -> Result<Bytes, NoMemory>
     ensures { IfOk result (λ bytes. bytes ≡ view_record view.now) }
 {
-    let mut writer = begin(alloc, VIEW)?;
+    let mut writer = begin(alloc, VIEW, RECORD_ROOM)?;
     write_view(&mut writer, view)?;
     finish(writer)
 }
@@ -298,7 +321,7 @@ pub fn checkpoint_record(
 ) -> Result<Bytes, NoMemory>
     ensures { IfOk result (λ bytes. bytes ≡ checkpoint_record (record { mark = mark; time = time; state = state.now; retained = unexpired time.0 table.now.entries })) }
 {
-    let mut writer = begin(alloc, CHECKPOINT)?;
+    let mut writer = begin(alloc, CHECKPOINT, RECORD_ROOM)?;
     write_checkpoint(&mut writer, mark, time, state, table)?;
     finish(writer)
 }
