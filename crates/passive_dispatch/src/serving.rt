@@ -75,40 +75,17 @@ fn repeat<K: Keeper>(alloc: Global, log: &Log<K>, position: u32) -> Served
     }
 }
 
-/// Writes a new request, and then runs it. Memory for its entry is taken before.
-#[inline(always)]
-fn accept<K: Keeper, S: Servant + Drop, L: Ledger>(
-    alloc: Global,
-    log: &mut Log<K>,
-    replica: &mut Replica<S>,
-    version: Version,
-    clock: Tick,
-    request: Request,
-    stop: Stop,
-    steps: &mut Steps<L>,
-) -> Served
-    requires { (c : Common) × (place : Place) × CanServe S.machine c place version.0 request (seen log.old replica.old steps.old) × (admitted log.old version.0 clock.0 request ≡ Admit.New) }
-    ensures served { (c : Common) (h : Host) (host : ℕ) → CanServe S.machine c h.place version.0 request (seen log.old replica.old steps.old) → admitted log.old version.0 clock.0 request ≡ Admit.New →
-        IsServed S.machine c h host clock.0 request stop result (seen log.old replica.old steps.old) (seen log.new replica.new steps.new) }
-    ensures written { IsWritten result log.old version clock request log.new }
+/// The log's write failed, so whether the request is in the journal isn't known.
+fn unwritten() -> Served
+    ensures { result ≡ Served.Done Decision.LogFault (Some (Answer.System (record { kind = SysKind.PersistStore; minor = 1; completed = Completed.Maybe }))) }
 {
-    logs_tell();
-    logs_go_on();
-    logs_admit();
-    repeats_are_answered();
-    if let Err(NoMemory) = log.reserve(alloc, version, clock, &request) {
-        return Served::NoMemory;
-    }
-    match log.append_reserved(version, clock, request) {
-        Appended::Failed => Served::Done {
-            decision: Decision::LogFault,
-            answer: Some(Answer::System(SysFault {
-                kind: SysKind::PersistStore,
-                minor: 1,
-                completed: Completed::Maybe,
-            })),
-        },
-        Appended::At(position) => run_joined(alloc, log, replica, position, stop, steps),
+    Served::Done {
+        decision: Decision::LogFault,
+        answer: Some(Answer::System(SysFault {
+            kind: SysKind::PersistStore,
+            minor: 1,
+            completed: Completed::Maybe,
+        })),
     }
 }
 
@@ -131,6 +108,8 @@ pub fn serve<K: Keeper, S: Servant + Drop, L: Ledger>(
         IsServed S.machine c h host clock.0 request stop result (seen log.old replica.old steps.old) (seen log.new replica.new steps.new) }
     ensures written { IsWritten result log.old version clock request log.new }
 {
+    logs_tell();
+    logs_go_on();
     logs_admit();
     repeats_are_answered();
     match log.admit(version, clock, &request) {
@@ -145,6 +124,16 @@ pub fn serve<K: Keeper, S: Servant + Drop, L: Ledger>(
             decision: Decision::Full(JOURNAL_LIMIT as u32),
             answer: refusal(SysKind::NoResources, 1),
         },
-        Admit::New => accept(alloc, log, replica, version, clock, request, stop, steps),
+        // Memory for the entry is taken before anything is written. This arm is no function of its own, since the
+        // request would be moved into it right after it was made.
+        Admit::New => {
+            if let Err(NoMemory) = log.reserve(alloc, version, clock, &request) {
+                return Served::NoMemory;
+            }
+            match log.append_reserved(version, clock, request) {
+                Appended::Failed => unwritten(),
+                Appended::At(position) => run_joined(alloc, log, replica, position, stop, steps),
+            }
+        }
     }
 }

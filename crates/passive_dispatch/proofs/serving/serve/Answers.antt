@@ -1,7 +1,9 @@
+use Rattle.std.proofs.Common.{Some, sym, refl}
 use Rattle.ft_base.specs.Journal.{reply_at}
 use Rattle.message_log.specs.declared.answers.Admit.TheVariants as admits
+use Rattle.message_log.specs.Calls.{reserved_for}
 use Rattle.passive_dispatch.specs.Served.{seen}
-use Rattle.passive_dispatch.proofs.Serves.{says, repeat_reply, repeat_told, repeat_written}
+use Rattle.passive_dispatch.proofs.Serves.{says, repeat_reply, repeat_told, repeat_written, has_joined, position_is, new_served}
 use Rattle.passive_dispatch.proofs.serving.serve.Goals as goal
 
 pub repeat-requires : goal.repeat-requires
@@ -27,3 +29,28 @@ returns-in-Same-clause-written g c =
     let there = repeat_reply c.logs_admit.ensures c.repeats_are_answered.ensures.caught_up g.S.Servant.machine r.0 r.1 c.args.version.0 c.args.clock.0 c.args.request
     (seen c.args.log.now c.args.replica.now c.args.steps.now) c.in-Same.position r.2 c.in-Same.ensures in
     repeat_written c.in-Same.position _ c.repeat.result c.args.log.now c.args.version c.args.clock c.args.request (c.repeat.ensures _ there)
+
+pub run_joined-requires : goal.run_joined-requires
+run_joined-requires g c =
+    let machines = g.S.Servant.machine in
+    let r = c.requires in
+    let reserved = Some (reserved_for c.args.log.now c.args.version c.args.clock c.args.request) in
+    let has = has_joined c.logs_go_on.ensures.beside c.logs_go_on.ensures.joined c.repeats_are_answered.ensures.run machines r.0 r.1 c.args.version c.args.clock c.args.request
+    (seen c.args.log.now c.args.replica.now c.args.steps.now) c.reserve.new.self c.append_reserved.new.self reserved r.2 (sym c.in-New.ensures) c.in_default.ensures.ok c.in-At.ensures.2 in
+    let at = position_is machines r.0 c.reserve.new.self c.args.log.now reserved c.in-At.position c.in_default.ensures.ok
+    (c.logs_tell.ensures.tell machines r.0 c.args.log.now r.2.log).end c.in-At.ensures.0 in
+    (r.0, r.1, c.args.clock.0, c.args.request, has, at)
+
+pub returns-in-At-clause-served : goal.returns-in-At-clause-served
+returns-in-At-clause-served g c = λ common h host can.
+    let machines = g.S.Servant.machine in
+    let before = seen c.args.log.now c.args.replica.now c.args.steps.now in
+    let reserved = Some (reserved_for c.args.log.now c.args.version c.args.clock c.args.request) in
+    let has = has_joined c.logs_go_on.ensures.beside c.logs_go_on.ensures.joined c.repeats_are_answered.ensures.run machines common h.place c.args.version c.args.clock c.args.request
+    before c.reserve.new.self c.append_reserved.new.self reserved can (sym c.in-New.ensures) c.in_default.ensures.ok c.in-At.ensures.2 in
+    let at = position_is machines common c.reserve.new.self c.args.log.now reserved c.in-At.position c.in_default.ensures.ok
+    (c.logs_tell.ensures.tell machines common c.args.log.now can.log).end c.in-At.ensures.0 in
+    let said = says c.logs_admit.ensures machines common h.place c.args.version.0 c.args.clock.0 c.args.request before admits.New can c.in-New.ensures in
+    new_served machines common h host c.args.clock.0 c.in-At.position c.args.request c.args.stop c.run_joined.result before
+    (seen c.append_reserved.new.self c.args.replica.now c.args.steps.now) (seen c.run_joined.new.log c.run_joined.new.replica c.run_joined.new.steps)
+    said refl c.run_joined.ensures.decided (c.run_joined.ensures.run common h host c.args.clock.0 c.args.request has at)
