@@ -78,7 +78,7 @@ fn act_first<L: Ledger>(
         Line::Id(name) => id_line(world, &name),
         Line::Ref(name) => ref_line(world, &name),
         Line::MemberRef { group, host } => member_line(world, &group, host),
-        Line::Inject { host, bytes } => inject_line(world, host, &bytes, steps),
+        Line::Inject { host, bytes } => inject_line(world, host, bytes, steps),
         Line::Change {
             change,
             group,

@@ -347,24 +347,24 @@ fn receive<L: Ledger>(
     }
 }
 
-// Serves the session of a link with these bytes.
+// Serves the session of a link with these bytes, which is read where they lie.
 fn session<L: Ledger>(
     world: &mut World,
     host: HostNo,
-    bytes: &Bytes,
+    bytes: Bytes,
     report: &mut ReportLines,
     steps: &mut Steps<L>,
 ) -> Result<StreamEnd, NoMemory>
     requires host { host.0 < HOST_LIMIT }
     requires fresh { report.old ≡ [] }
     requires kept { IsKeptWorld world.old }
-    ensures served { Served world.old host.0 bytes.now result world.new report.new steps.old steps.new }
+    ensures served { Served world.old host.0 bytes result world.new report.new steps.old steps.new }
 {
-    let mut session = Session::new(world.alloc());
-    match session.feed(bytes.bytes()) {
-        Ok(()) => {}
+    let bytes = match bytes.into_vec(world.alloc()) {
+        Ok(bytes) => bytes,
         Err(NoMemory) => return Err(NoMemory),
-    }
+    };
+    let mut session = Session::over(world.alloc(), bytes);
     'messages: loop {
         match session.next() {
             Ok(SessionStep::Serve(received)) => {
@@ -384,12 +384,12 @@ fn session<L: Ledger>(
 fn link<L: Ledger>(
     world: &mut World,
     host: HostNo,
-    bytes: &Bytes,
+    bytes: Bytes,
     steps: &mut Steps<L>,
 ) -> Result<ReportLines, NoMemory>
     requires host { host.0 < HOST_LIMIT }
     requires kept { IsKeptWorld world.old }
-    ensures { Does (link_of world.old host.0 bytes.now) result world.new steps.old steps.new }
+    ensures { Does (link_of world.old host.0 bytes) result world.new steps.old steps.new }
 {
     let alloc = world.alloc();
     let mut report = ReportLines::new(alloc);
@@ -407,11 +407,11 @@ fn link<L: Ledger>(
 pub(crate) fn inject_line<L: Ledger>(
     world: &mut World,
     number: u64,
-    bytes: &Bytes,
+    bytes: Bytes,
     steps: &mut Steps<L>,
 ) -> Result<ReportLines, LineFault>
     requires { IsKeptWorld world.old }
-    ensures { Acts (inject_line world.old number bytes.now) result world.old world.new steps.old steps.new }
+    ensures { Acts (inject_line world.old number bytes) result world.old world.new steps.old steps.new }
 {
     let host = match world.host(number) {
         Some(host) => host,
