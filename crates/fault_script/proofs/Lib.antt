@@ -10,3 +10,4 @@ pub mod ArgumentLemmas
 pub mod SplitLemmas
 pub mod CommentLemmas
 pub mod DigitLemmas
+pub mod LaneLemmas

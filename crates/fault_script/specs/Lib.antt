@@ -6,3 +6,4 @@ pub mod Forms
 pub mod Grammar
 pub mod Options
 pub mod Arguments
+pub mod Digits
