@@ -10,7 +10,9 @@ use crate::tallies::{Brief, Tally};
 use cdr_codec::{CdrReader, Order};
 use ft_base::NoMemory;
 use giop_messages::{HEAD_LENGTH, Head, Kind, MESSAGE_LIMIT, Malformed, Message, Why, read_fields};
+use smallvec::SmallVec;
 use std::alloc::Global;
+use std::default::MadeWith;
 use std::marker::Model;
 
 /// The most messages that are begun at once.
@@ -48,6 +50,22 @@ impl Model for Opened {
     ghost view = { λ o. record { id = o.id; head = o.head; payload = o.payload.items; spent = o.spent } };
 
     ghost invariant = { λ o. HEAD_LENGTH + vec_len o.payload ≤ MESSAGE_LIMIT };
+}
+
+// What stands where no message is begun. It takes no memory.
+impl MadeWith<Global> for Opened {
+    fn made_with(alloc: Global) -> Opened {
+        Opened {
+            id: 0,
+            head: Head {
+                flags: 0,
+                kind: Kind::Request,
+                size: 0,
+            },
+            payload: Vec::new(alloc),
+            spent: 0,
+        }
+    }
 }
 
 #[tactic(auto, unfolding(crate::specs::Parts::message_of))]
@@ -186,21 +204,23 @@ fn tally_of(items: &[Opened]) -> Tally
     tally
 }
 
-/// All messages that are begun, in the order in which they began.
+/// All messages that are begun, in the order in which they began. Most links have one at a time, which lies in the list
+/// itself; only more of them take memory.
 #[derive(Drop)]
 pub struct Partials {
-    items: Vec<Opened>,
+    items: SmallVec<Opened, 1>,
 }
 
 impl Model for Partials {
-    ghost use Rattle.std.specs.Prelude.{◌≤◌, List, vec_len};
+    ghost use Rattle.std.specs.Prelude.{◌≤◌, List};
     ghost use Rattle.giop_stream.specs.Parts.{Begun, begun_limit};
+    ghost use Rattle.smallvec.specs.SmallVec.{small_vec_len};
 
     ghost Value = { List Begun };
 
     ghost view = { λ p. p.items.items };
 
-    ghost invariant = { λ p. vec_len p.items ≤ begun_limit };
+    ghost invariant = { λ p. small_vec_len p.items ≤ begun_limit };
 }
 
 impl Partials {
@@ -208,7 +228,7 @@ impl Partials {
         ensures { result ≡ [] }
     {
         Partials {
-            items: Vec::new(alloc),
+            items: SmallVec::new(alloc),
         }
     }
 
@@ -238,7 +258,7 @@ impl Partials {
         ensures value { result ≡ place_of id self.now }
         ensures within { IfSome result (λ at. at < length self.now) }
     {
-        self.items.iter().position(|begun| begun.has(id))
+        self.items.as_slice().iter().position(|begun| begun.has(id))
     }
 
     fn size(&self, at: usize) -> usize
@@ -246,7 +266,7 @@ impl Partials {
         ensures value { (o : Begun) → slice_get self.now at ≡ Some o → result ≡ HEAD_LENGTH + length o.payload }
         ensures small { result ≤ MESSAGE_LIMIT }
     {
-        self.items[at].len()
+        self.items.as_slice()[at].len()
     }
 
     fn push(&mut self, begun: Opened) -> Result<(), NoMemory>
@@ -265,7 +285,7 @@ impl Partials {
         ensures ok { (o : Begun) → slice_get self.old at ≡ Some o → OnOk result (self.new ≡ slice_set self.old at (grown o rest.now)) }
         ensures err { OnErr result (self.new ≡ self.old) }
     {
-        let begun = &mut self.items[at];
+        let begun = &mut self.items.as_mut_slice()[at];
         match begun.grow(rest) {
             Ok(()) => return Ok(()),
             Err(NoMemory) => return Err(NoMemory),
@@ -284,7 +304,7 @@ impl Partials {
         ensures value { (o : Begun) → slice_get self.old at ≡ Some o → Tells (λ m. m) link_fault result (message_of o.head (o.payload ++ rest.now)) }
         ensures same { self.new ≡ self.old }
     {
-        let begun = &mut self.items[at];
+        let begun = &mut self.items.as_mut_slice()[at];
         match begun.join(alloc, rest) {
             Ok(message) => return Ok(message),
             Err(fault) => return Err(fault),
