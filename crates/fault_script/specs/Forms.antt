@@ -1,6 +1,6 @@
 -- What a script line reads as: its event, nothing, or the first of the refusals `limit line`, `later`
 -- and `syntax` that applies.
-use Rattle.std.specs.Prelude.{ℕ, ◌^◌, ◌&&◌, Bool, nat_lt, if◌then◌else◌, List, [], ◌∷◌, length, codes, Option, Some, None, option_map, option_and_then, Result, Ok, Err}
+use Rattle.std.specs.Prelude.{◌≡◌, ◌⊎◌, ℕ, ◌^◌, ◌&&◌, Bool, nat_lt, if◌then◌else◌, List, [], ◌∷◌, length, codes, Option, Some, None, option_map, option_and_then, Result, Ok, Err, MatchResult}
 use Rattle.std.specs.List.{list_any}
 use Rattle.std.specs.Str.{bytes_eq}
 use Rattle.fault_script.specs.Words.{words, is_comment, is_script_name, is_operation, each, only}
@@ -22,7 +22,7 @@ use Rattle.fault_script.specs.declared.lines.Line.{Line}
 use Rattle.fault_script.specs.declared.lines.Line.TheVariants as lines
 use Rattle.fault_script.specs.declared.lines.LimitName.TheVariants as limits
 use Rattle.fault_script.specs.declared.lines.LineFault.{LineFault}
-use Rattle.fault_script.specs.declared.lines.LineFault.TheVariants.{Limit, Later, Syntax}
+use Rattle.fault_script.specs.declared.lines.LineFault.TheVariants.{Limit, Later, NoMemory, Syntax}
 use Rattle.fault_script.specs.declared.verbs.Verb.{Verb}
 use Rattle.fault_script.specs.declared.verbs.Verb.TheVariants as verbs
 
@@ -443,6 +443,11 @@ line_of_verb (Some verbs.Update) rest = update_line rest
 abbrev pub line_of : List ℕ → List (List ℕ) → Result Line LineFault
 line_of first rest = if is_unbuilt first then Err Later else line_of_verb (verb first) rest
 
+-- the line of some words
+abbrev pub form_of : List (List ℕ) → Result Line LineFault
+form_of [] = Err Syntax
+form_of (first ∷ rest) = line_of first rest
+
 -- a line that is there
 abbrev pub as_some : Result Line LineFault → Result (Option Line) LineFault
 as_some (Ok line) = Ok (Some line)
@@ -456,3 +461,10 @@ parse_words (first ∷ rest) = if is_comment first then Ok None else as_some (li
 -- a line has at most 4,096 bytes, without its end
 abbrev pub parse : List ℕ → Result (Option Line) LineFault
 parse text = if nat_lt 4096 (length text) then Err (Limit limits.Line) else parse_words (words text)
+
+-- what a text reads as, where it was told whether a line stands in it, and these are its words
+abbrev pub IsSplit : Result Bool LineFault → List ℕ → List (List ℕ) → Type 0
+IsSplit answer text found =
+    MatchResult answer
+    (λ there. parse text ≡ if there then as_some (form_of found) else Ok None)
+    (λ fault. (fault ≡ NoMemory) ⊎ (parse text ≡ Err fault))

@@ -30,4 +30,5 @@ pub use arguments::{CallWords, call_words};
 pub use lines::{
     Criteria, HostNumbers, KindWord, Level, LimitName, Line, LineFault, MemberChange, Words,
 };
-pub use reading::read_line;
+pub use reading::{read_line, read_words, split_line};
+pub use splitting::LineWords;

@@ -1,7 +1,7 @@
-ghost use Rattle.std.specs.Prelude.{◌≡◌, ℕ, ◌<◌, ◌≤◌, List, length, Some, Ok, Err, IfOk, IfSome};
+ghost use Rattle.std.specs.Prelude.{◌≡◌, ℕ, ◌<◌, ◌≤◌, if◌then◌else◌, List, [], length, Some, None, Ok, Err, IfOk, IfSome};
 ghost use Rattle.fault_script.specs.Words.{words, texts};
 ghost use Rattle.fault_script.specs.Faults.{IsAnswer};
-ghost use Rattle.fault_script.specs.Forms.{line_of, parse_words, parse};
+ghost use Rattle.fault_script.specs.Forms.{line_of, form_of, as_some, parse_words, parse, IsSplit};
 ghost use Rattle.fault_script.specs.Grammar.{Spells};
 ghost use Rattle.fault_script.specs.declared.lines.Line.{Line};
 
@@ -22,9 +22,15 @@ use std::alloc::Global;
 /// The longest line, in bytes without its end.
 const LINE_LIMIT: usize = 4096;
 
-fn read_form(alloc: Global, first: &[u8], rest: &[&[u8]]) -> Result<Line, LineFault>
-    ensures { IsAnswer result (line_of first.now (texts rest.now)) }
+/// The line of some words: a line is refused as `later` or `syntax`, for the first of these that applies.
+// It is a function by itself, since a line is large: each form is written where the caller wants it, and not moved.
+#[inline(never)]
+pub fn read_words(alloc: Global, words: &[&[u8]]) -> Result<Line, LineFault>
+    ensures { IsAnswer result (form_of (texts words.now)) }
 {
+    let Some((first, rest)) = split_first(words) else {
+        return Err(LineFault::Syntax);
+    };
     if is_unbuilt(first) {
         return Err(LineFault::Later);
     }
@@ -63,23 +69,21 @@ fn read_form(alloc: Global, first: &[u8], rest: &[&[u8]]) -> Result<Line, LineFa
     }
 }
 
-fn read_words(alloc: Global, words: &[&[u8]]) -> Result<Option<Line>, LineFault>
-    ensures { IsAnswer result (parse_words (texts words.now)) }
+// Whether a line stands in these words.
+fn has_line(words: &[&[u8]]) -> bool
+    ensures { parse_words (texts words.now) ≡ if result then as_some (form_of (texts words.now)) else Ok None }
 {
-    let Some((first, rest)) = split_first(words) else {
-        return Ok(None);
-    };
-    if is_comment(first) {
-        return Ok(None);
-    }
-    match read_form(alloc, first, rest) {
-        Ok(line) => Ok(Some(line)),
-        Err(fault) => Err(fault),
+    match split_first(words) {
+        Some((first, _)) => !is_comment(first),
+        None => false,
     }
 }
 
-fn read_text(alloc: Global, text: &[u8]) -> Result<Option<Line>, LineFault>
-    ensures answer { IsAnswer result (parse text.now) }
+/// Finds the words of a line of a script, without its end, and answers whether a line stands in them: none does where
+/// there are no words, or a comment. A line that is too long is refused as `limit line`.
+pub fn split_line<'a>(text: &'a [u8], words: &mut LineWords<'a>) -> Result<bool, LineFault>
+    requires empty { words.old.items ≡ [] }
+    ensures answer { IsSplit result text.now (texts words.new.items) }
     ensures long { 4096 < length text.now → result ≡ Err (LineFault.Limit LimitName.Line) }
 {
     if text.len() > LINE_LIMIT {
@@ -87,11 +91,22 @@ fn read_text(alloc: Global, text: &[u8]) -> Result<Option<Line>, LineFault>
     }
     // Most comments are told by their first byte, and not divided into words.
     if is_comment(text) {
+        return Ok(false);
+    }
+    split_words(text, words)?;
+    Ok(has_line(words.as_slice()))
+}
+
+fn read_text(alloc: Global, text: &[u8]) -> Result<Option<Line>, LineFault>
+    ensures answer { IsAnswer result (parse text.now) }
+    ensures long { 4096 < length text.now → result ≡ Err (LineFault.Limit LimitName.Line) }
+{
+    let mut words = LineWords::new(alloc);
+    if !split_line(text, &mut words)? {
         return Ok(None);
     }
-    let mut words = LineWords::new(alloc);
-    split_words(text, &mut words)?;
-    read_words(alloc, words.as_slice())
+    let line = read_words(alloc, words.as_slice())?;
+    Ok(Some(line))
 }
 
 /// Reads a line of a script, without its end. `None`: nothing stands in it, or a comment does. A line is

@@ -43,7 +43,7 @@ fn cut(line: &[u8]) -> Option<(&[u8], &[u8])>
 }
 
 /// The words of a line. The words of most lines take no memory.
-pub(crate) type LineWords<'a> = SmallVec<&'a [u8], FEW_WORDS>;
+pub type LineWords<'a> = SmallVec<&'a [u8], FEW_WORDS>;
 
 // Between two blanks side by side there is no word.
 fn push_filled<'a>(words: &mut LineWords<'a>, word: &'a [u8]) -> Result<(), NoMemory>

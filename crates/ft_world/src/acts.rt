@@ -2,6 +2,7 @@ ghost use Rattle.std.specs.Prelude.{◌≡◌, ℕ, ◌+◌, ◌≤◌, ◌^◌,
 ghost use Rattle.ft_world.specs.Acts.{act, act_first};
 ghost use Rattle.world_turns.specs.Answers.{Acts, Did, IfRefused};
 ghost use Rattle.ft_world.specs.Lines.{IsTimely};
+ghost use Rattle.world_monitors.specs.Subscribing.{subscribe_line};
 ghost use Rattle.script_world.specs.Sound.{HasActed, IsKeptWorld};
 ghost use Rattle.world_turns.specs.Turns.{first_cause, total_causes, totals_of};
 
@@ -11,9 +12,10 @@ use crate::links::inject_line;
 use crate::retrying::{bind_line, timeout_line};
 use fault_notifier::EVENT_LIMIT;
 use fault_script::{LimitName, Line, LineFault};
-use ft_base::Steps;
+use ft_base::{Bytes, Name, Steps};
 use ft_report::ReportLines;
 use script_world::{BYTE_LIMIT, ENTRY_LIMIT, MESSAGE_LIMIT, World};
+use std::mem;
 use std::sync::ledger::Ledger;
 use world_management::{
     change_line, client_line, crash_line, create_line, delete_line, get_group_line, get_line,
@@ -32,68 +34,87 @@ fn is_timely(line: &Line)
     }
 }
 
-// What a line does, before its totals are judged.
+// Subscribes by a name that is copied.
+fn subscribe_by(
+    world: &mut World,
+    subscriber: &Name,
+    filter: &Bytes,
+) -> Result<ReportLines, LineFault>
+    ensures { (calls : ℕ) → Acts (subscribe_line world.old subscriber.now filter.now) result world.old world.new calls calls }
+{
+    let subscriber = subscriber.copy(world.alloc())?;
+    subscribe_line(world, subscriber, filter)
+}
+
+// What a line does, before its totals are judged. What is kept of a line is copied from it, but for a link's bytes, which
+// are taken: they are left empty.
 #[inline(always)]
 fn act_first<L: Ledger>(
     world: &mut World,
-    line: Line,
+    line: &mut Line,
     steps: &mut Steps<L>,
 ) -> Result<ReportLines, LineFault>
     requires kept { IsKeptWorld world.old }
     requires acted { (lines : ℕ) × (lines ≤ 2 ^ 27) × HasActed world.old lines }
-    ensures did { Acts (act_first world.old line) result world.old world.new steps.old steps.new }
+    ensures did { Acts (act_first world.old line.old) result world.old world.new steps.old steps.new }
 {
+    let alloc = world.alloc();
     match line {
-        Line::Hosts(count) => hosts_line(world, count),
+        Line::Hosts(count) => hosts_line(world, *count),
         Line::Group {
             name,
             kind,
             style,
             members,
-        } => group_line(world, name, kind, style, &members, steps),
+        } => group_line(world, name.copy(alloc)?, *kind, *style, members, steps),
         Line::Create {
             name,
             kind,
             criteria,
-        } => create_line(world, name, kind, &criteria, steps),
-        Line::Delete(name) => delete_line(world, &name),
-        Line::Set { level, property } => set_line(world, level, property),
-        Line::SetGroup { group, property } => set_group_line(world, &group, property),
-        Line::Unset { level, name } => unset_line(world, level, name),
-        Line::Get { level, name } => get_line(world, level, &name),
-        Line::GetGroup { group, name } => get_group_line(world, &group, &name),
-        Line::Client(name) => client_line(world, name),
+        } => create_line(world, name.copy(alloc)?, *kind, criteria, steps),
+        Line::Delete(name) => delete_line(world, name),
+        Line::Set { level, property } => set_line(world, *level, property.copy(alloc)?),
+        Line::SetGroup { group, property } => {
+            set_group_line(world, group, property.copy(alloc)?)
+        }
+        Line::Unset { level, name } => unset_line(world, *level, name.copy(alloc)?),
+        Line::Get { level, name } => get_line(world, *level, name),
+        Line::GetGroup { group, name } => get_group_line(world, group, name),
+        Line::Client(name) => client_line(world, name.copy(alloc)?),
         Line::Call {
             client,
             group,
             op,
             words,
-        } => call_line(world, &client, &group, op, &words),
-        Line::Bind { client, group } => bind_line(world, &client, &group),
-        Line::Timeout(client) => timeout_line(world, &client),
-        Line::Deliver { number, stop } => deliver_line(world, number, stop, steps),
-        Line::Tick(ticks) => tick_line(world, ticks),
-        Line::Show(name) => show_line(world, &name),
-        Line::Locations(name) => locations_line(world, &name),
-        Line::Id(name) => id_line(world, &name),
-        Line::Ref(name) => ref_line(world, &name),
-        Line::MemberRef { group, host } => member_line(world, &group, host),
-        Line::Inject { host, bytes } => inject_line(world, host, bytes, steps),
+        } => call_line(world, client, group, op.copy(alloc)?, words),
+        Line::Bind { client, group } => bind_line(world, client, group),
+        Line::Timeout(client) => timeout_line(world, client),
+        Line::Deliver { number, stop } => deliver_line(world, *number, *stop, steps),
+        Line::Tick(ticks) => tick_line(world, *ticks),
+        Line::Show(name) => show_line(world, name),
+        Line::Locations(name) => locations_line(world, name),
+        Line::Id(name) => id_line(world, name),
+        Line::Ref(name) => ref_line(world, name),
+        Line::MemberRef { group, host } => member_line(world, group, *host),
+        Line::Inject { host, bytes } => {
+            let bytes = mem::replace(bytes, Bytes::from_vec(Vec::new(alloc)));
+            inject_line(world, *host, bytes, steps)
+        }
         Line::Change {
             change,
             group,
             host,
-        } => change_line(world, change, &group, host, steps),
-        Line::Grow { group, host } => grow_line(world, &group, host, steps),
-        Line::Crash(host) => crash_line(world, host, steps),
-        Line::Restart(host) => restart_line(world, host, steps),
-        Line::Poll(name) => poll_line(world, &name),
-        Line::Sweep(name) => sweep_line(world, &name, steps),
-        Line::Subscribe { subscriber, filter } => subscribe_line(world, subscriber, &filter),
-        Line::Unsubscribe(subscriber) => unsubscribe_line(world, subscriber),
-        Line::Pull(subscriber) => pull_line(world, subscriber),
-        Line::Checkpoint(name) => checkpoint_line(world, &name, steps),
-        Line::Update(name) => update_line(world, &name, steps),
+        } => change_line(world, *change, group, *host, steps),
+        Line::Grow { group, host } => grow_line(world, group, *host, steps),
+        Line::Crash(host) => crash_line(world, *host, steps),
+        Line::Restart(host) => restart_line(world, *host, steps),
+        Line::Poll(name) => poll_line(world, name),
+        Line::Sweep(name) => sweep_line(world, name, steps),
+        Line::Subscribe { subscriber, filter } => subscribe_by(world, subscriber, filter),
+        Line::Unsubscribe(subscriber) => unsubscribe_line(world, subscriber.copy(alloc)?),
+        Line::Pull(subscriber) => pull_line(world, subscriber.copy(alloc)?),
+        Line::Checkpoint(name) => checkpoint_line(world, name, steps),
+        Line::Update(name) => update_line(world, name, steps),
     }
 }
 
@@ -118,20 +139,21 @@ fn refuses(world: &World) -> Option<LineFault>
 }
 
 /// What a line of a script does. A refused line changes nothing; but after a total that is too great, and
-/// after want of memory, nothing is said of what the world holds.
+/// after want of memory, nothing is said of what the world holds. The line has no more use then: what it has
+/// memory for may be taken from it, so that no line is moved or copied.
 pub fn act<L: Ledger>(
     world: &mut World,
-    line: Line,
+    line: &mut Line,
     steps: &mut Steps<L>,
 ) -> Result<ReportLines, LineFault>
     requires kept { IsKeptWorld world.old }
     requires acted { (lines : ℕ) × (lines ≤ 2 ^ 27) × HasActed world.old lines }
-    ensures did { Did (act world.old line) result world.new steps.old steps.new }
+    ensures did { Did (act world.old line.old) result world.new steps.old steps.new }
     ensures unchanged { IfRefused result (world.new ≡ world.old) }
     ensures kept { OnOk result (IsKeptWorld world.new) }
     ensures acted { OnOk result ((lines : ℕ) → HasActed world.old lines → HasActed world.new (lines + 1)) }
 {
-    is_timely(&line);
+    is_timely(line);
     match act_first(world, line, steps) {
         Ok(report) => match refuses(world) {
             Some(why) => Err(why),

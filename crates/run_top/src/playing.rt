@@ -1,7 +1,7 @@
 ghost use Rattle.std.specs.Prelude.{◌≡◌};
 ghost use Rattle.run_top.specs.Playing.{refusal};
 
-use fault_script::{LimitName, Line, LineFault, read_line};
+use fault_script::{LimitName, Line, LineFault, LineWords, read_words, split_line};
 use ft_base::{Bytes, NoMemory, Steps};
 use ft_world::act;
 use script_pieces::{Actor, LineResult};
@@ -44,7 +44,9 @@ impl Script {
     ghost use Rattle.script_world.specs.Sound.{HasActed, IsKeptWorld};
     ghost use Rattle.script_pieces.specs.Feeds.{IfGoes, IsActed};
     ghost use Rattle.script_pieces.specs.Runs.{script_limit};
-    ghost use Rattle.run_top.specs.Playing.{MayAct, printed_effect};
+    ghost use Rattle.fault_script.specs.Forms.{as_some, form_of};
+    ghost use Rattle.fault_script.specs.Words.{texts};
+    ghost use Rattle.run_top.specs.Playing.{MayAct, effect_of, printed_effect};
 
     /// A script of which no line was acted yet.
     pub fn new(alloc: Global) -> Result<Script, NoMemory>
@@ -62,9 +64,9 @@ impl Script {
     }
 
     // Acts a line that was read.
-    fn play<L: Ledger>(&mut self, line: Line, steps: &mut Steps<L>) -> LineResult<LineFault>
+    fn play<L: Ledger>(&mut self, line: &mut Line, steps: &mut Steps<L>) -> LineResult<LineFault>
         requires { (number : ℕ) × (number ≤ script_limit + 1) × MayAct self.old number }
-        ensures acted { IsActed (printed_effect (act self.old line)) self.new steps.old steps.new result }
+        ensures acted { IsActed (printed_effect (act self.old line.old)) self.new steps.old steps.new result }
         ensures next { (number : ℕ) → MayAct self.old number → IfGoes result (MayAct self.new (number + 1)) }
     {
         let report = match act(&mut self.world, line, steps) {
@@ -72,6 +74,23 @@ impl Script {
             Err(why) => return refusal(why),
         };
         LineResult::Goes(report.into_bytes())
+    }
+
+    // Acts the line of some words, where it was read: a line is large, and was moved at every hand.
+    fn play_words<L: Ledger>(
+        &mut self,
+        alloc: Global,
+        words: &[&[u8]],
+        steps: &mut Steps<L>,
+    ) -> LineResult<LineFault>
+        requires { (number : ℕ) × (number ≤ script_limit + 1) × MayAct self.old number }
+        ensures acted { IsActed (effect_of self.old (as_some (form_of (texts words.now)))) self.new steps.old steps.new result }
+        ensures next { (number : ℕ) → MayAct self.old number → IfGoes result (MayAct self.new (number + 1)) }
+    {
+        match &mut read_words(alloc, words) {
+            Ok(line) => self.play(line, steps),
+            Err(why) => refusal(*why),
+        }
     }
 }
 
@@ -91,9 +110,10 @@ impl Actor for Script {
         text: &[u8],
         steps: &mut Steps<L>,
     ) -> LineResult<LineFault> {
-        match read_line(alloc, text) {
-            Ok(Some(line)) => self.play(line, steps),
-            Ok(None) => LineResult::Goes(Bytes::from_vec(Vec::new(alloc))),
+        let mut words = LineWords::new(alloc);
+        match split_line(text, &mut words) {
+            Ok(true) => self.play_words(alloc, words.as_slice(), steps),
+            Ok(false) => LineResult::Goes(Bytes::from_vec(Vec::new(alloc))),
             Err(why) => refusal(why),
         }
     }

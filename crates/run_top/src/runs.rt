@@ -16,6 +16,7 @@ use itoa::Buffer;
 use made_scripts::make_script;
 use script_pieces::{FeedResult, RunEnd, run_script, run_text};
 use std::alloc::Global;
+use std::mem;
 use std::sync::ledger::Ledger;
 
 // What is told of words of no form.
@@ -97,7 +98,8 @@ fn run_made<B: Sink, E: Sink, L: Ledger>(
 
 /// `ftc run`: runs the script that the source gives; `ftc run --make N`: makes a script of N rounds, runs
 /// it, and prints what its `show` prints behind a line of counts. It answers the status of the program,
-/// with its text on the sink of errors where it is not 0.
+/// with its text on the sink of errors where it is not 0. The memory of a script's world is not given
+/// back: the process is to end behind it.
 ///
 /// | status | when |
 /// |---|---|
@@ -183,7 +185,10 @@ pub fn ftc_run<A: Source, B: Sink, E: Sink, L: Ledger>(
     let Ok(mut script) = Script::new(alloc) else {
         return end(err, 6, b"ftc: no memory\n");
     };
-    match run_script(alloc, &mut script, input, out, steps) {
+    let end_of_run = run_script(alloc, &mut script, input, out, steps);
+    // Entry by entry the world would be freed for nothing: the process ends behind this.
+    mem::forget(script);
+    match end_of_run {
         RunEnd::Done => 0,
         RunEnd::Refused(number, why) => refuse(alloc, err, number, why),
         RunEnd::ReadFailed => end(err, 4, b"ftc: read fault\n"),

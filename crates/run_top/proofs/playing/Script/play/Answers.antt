@@ -8,8 +8,8 @@ use Rattle.run_top.proofs.playing.Script.play.Goals as goal
 
 pub returns-in-Err-clause-acted : goal.returns-in-Err-clause-acted
 returns-in-Err-clause-acted g c =
-    rw c.refusal.ensures (not_acted (act c.args.self.now c.args.line) c.in-Err.why c.act.new.world c.args.steps.now c.act.new.steps
-    (subst (λ (w : World). DidNot (act w c.args.line) c.in-Err.why c.args.steps.now c.act.new.steps) c.self.view_is c.in-Err.ensures.did))
+    rw c.refusal.ensures (not_acted (act c.args.self.now c.args.line.now) c.in-Err.why c.act.new.world c.args.steps.now c.act.new.steps
+    (subst (λ (w : World). DidNot (act w c.args.line.now) c.in-Err.why c.args.steps.now c.act.new.steps) c.self.view_is c.in-Err.ensures.did))
 
 pub returns-clause-next : goal.returns-clause-next
 returns-clause-next g c = λ number may. record {

@@ -1,6 +1,6 @@
 use Rattle.std.proofs.Common.{◌∙◌, sym}
 use Rattle.fault_script.proofs.CommentLemmas.{no_line_read}
-use Rattle.fault_script.proofs.reading.read_text.Goals as goal
+use Rattle.fault_script.proofs.reading.split_line.Goals as goal
 
 pub returns-then-is_comment-clause-answer : goal.returns-then-is_comment-clause-answer
 returns-then-is_comment-clause-answer c =
