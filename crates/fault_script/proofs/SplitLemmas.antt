@@ -1,8 +1,9 @@
 -- A line that is cut at its blanks.
-use Rattle.std.proofs.Common.{◌≡◌, ℕ, zero, suc, ◌+◌, ◌<◌, Bool, true, false, List, [], ◌∷◌, length, get_or, take, drop, refl, sym, ap, ◌∙◌, arith}
+use Rattle.std.proofs.Common.{◌≡◌, ℕ, zero, suc, ◌+◌, ◌<◌, Bool, true, false, List, [], ◌∷◌, length, get_or, take, drop, refl, sym, ap, ◌∙◌, subst, arith, Some}
 use Rattle.std.specs.List.{slice_split, onto_first}
 use Rattle.std.proofs.lemmas.List.Splits.{slice_split-cons_yes, slice_split-cons_no}
-use Rattle.memchr.specs.Find.{NoneBefore, Nowhere, Passes}
+use Rattle.std.proofs.lemmas.Bool.Decides.{nat_tests}
+use Rattle.memchr.specs.Find.{IsFirstByte, NoneBefore, Nowhere, Passes}
 use Rattle.fault_script.specs.Words.{is_blank}
 
 not_so : (b : Bool) → (b ≡ true → ⊥) → b ≡ false
@@ -31,3 +32,17 @@ cut_some xs front rest i none is f r =
     ∙ ap (λ (n : ℕ). take i xs ∷ slice_split is_blank (drop n xs)) next
     ∙ ap (λ (ys : List ℕ). ys ∷ slice_split is_blank (drop (i + 1) xs)) (sym f)
     ∙ ap (λ (ys : List ℕ). front ∷ slice_split is_blank ys) (sym r)
+
+larger_fills : (x : ℕ) → 32 < x → is_blank x ≡ false
+larger_fills x l = grind (arith, nat_tests)
+
+before_one : (xs : List ℕ) → 32 < get_or xs 0 0 → (k : ℕ) → k < 1 → is_blank (get_or xs k 0) ≡ true → ⊥
+before_one xs large zero h p = (let f : is_blank (get_or xs 0 0) ≡ false = larger_fills (get_or xs 0 0) large in cc)
+before_one xs large (suc k) h p = omega (arith, h)
+
+-- a word of one byte in front of a space
+pub one_byte_first : (xs : List ℕ) → 1 < length xs → 32 < get_or xs 0 0 → get_or xs 1 0 ≡ 32 → IsFirstByte is_blank xs (Some 1)
+one_byte_first xs long large space = (
+  record { low = omega arith; high = long; before = λ k l h. before_one xs large k h },
+  subst (λ (x : ℕ). is_blank x ≡ true) (sym space) refl,
+)

@@ -1,6 +1,6 @@
 ghost use Rattle.std.specs.Prelude.{◌≡◌, ◌<◌, true, length, IfSome};
 ghost use Rattle.fault_script.specs.Words.{texts, each, is_script_name};
-ghost use Rattle.fault_script.specs.Faults.{IsAnswer};
+ghost use Rattle.fault_script.specs.Faults.{IsLeft};
 ghost use Rattle.fault_script.specs.Arguments.{IsFound};
 ghost use Rattle.fault_script.specs.Properties.{equals_place, criterion};
 ghost use Rattle.fault_script.specs.Forms.{created, create_line};
@@ -46,27 +46,32 @@ fn read_criteria(alloc: Global, words: &[&[u8]]) -> Result<Criteria, LineFault>
     Ok(Criteria::from_vec(properties))
 }
 
-fn create(alloc: Global, name: &[u8], kind: KindWord, words: &[&[u8]]) -> Result<Line, LineFault>
+fn create(
+    alloc: Global,
+    name: &[u8],
+    kind: KindWord,
+    words: &[&[u8]],
+    line: &mut Line,
+) -> Result<(), LineFault>
     requires { is_script_name name.now ≡ true }
-    ensures { IsAnswer result (created name.now kind (each criterion (texts words.now))) }
+    ensures { IsLeft result line.new (created name.now kind (each criterion (texts words.now))) }
 {
     let criteria = match read_criteria(alloc, words) {
         Ok(criteria) => criteria,
         Err(fault) => return Err(fault),
     };
-    match read_name(alloc, name) {
-        Ok(name) => Ok(Line::Create {
-            name,
-            kind,
-            criteria,
-        }),
-        Err(fault) => Err(fault),
-    }
+    let name = read_name(alloc, name)?;
+    *line = Line::Create {
+        name,
+        kind,
+        criteria,
+    };
+    Ok(())
 }
 
 /// `create G KIND P=V..`, from the words behind the first.
-pub(crate) fn read_create(alloc: Global, words: &[&[u8]]) -> Result<Line, LineFault>
-    ensures { IsAnswer result (create_line (texts words.now)) }
+pub(crate) fn read_create(alloc: Global, words: &[&[u8]], line: &mut Line) -> Result<(), LineFault>
+    ensures { IsLeft result line.new (create_line (texts words.now)) }
 {
     let Some((name, rest)) = split_first(words) else {
         return Err(LineFault::Syntax);
@@ -78,7 +83,7 @@ pub(crate) fn read_create(alloc: Global, words: &[&[u8]]) -> Result<Line, LineFa
         return Err(LineFault::Syntax);
     };
     if is_script_name(name) {
-        create(alloc, name, kind, rest)
+        create(alloc, name, kind, rest, line)
     } else {
         Err(LineFault::Syntax)
     }

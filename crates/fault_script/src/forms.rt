@@ -1,7 +1,7 @@
 ghost use Rattle.std.specs.Prelude.{◌≡◌, ℕ, List, true, Ok};
 ghost use Rattle.fault_script.specs.Words.{texts, only, is_script_name, is_operation};
 ghost use Rattle.fault_script.specs.Numbers.{host_numbers};
-ghost use Rattle.fault_script.specs.Faults.{IsAnswer};
+ghost use Rattle.fault_script.specs.Faults.{IsPut, IsLeft};
 ghost use Rattle.fault_script.specs.Arguments.{IsFound};
 ghost use Rattle.fault_script.specs.Forms.{only_host, hosts_line, kind_of, style_of, group_of, group_line, client_line, call_line, bind_line, timeout_line, stop_named, stop_of, deliver_line, tick_line, show_line, locations_line, id_line, ref_line, member_line, inject_line, change_line, crash_line, restart_line, grow_line, delete_line};
 
@@ -15,105 +15,107 @@ use ft_base::{Bytes, NoMemory, Stop, Style};
 use std::alloc::Global;
 
 /// `hosts N`, from the words behind the first.
-pub(crate) fn read_hosts(words: &[&[u8]]) -> Result<Line, LineFault>
-    ensures { result ≡ hosts_line (texts words.now) }
+pub(crate) fn read_hosts(words: &[&[u8]], line: &mut Line) -> Result<(), LineFault>
+    ensures { IsPut result line.new (hosts_line (texts words.now)) }
 {
     let Some(word) = only(words) else {
         return Err(LineFault::Syntax);
     };
-    match read_positive(word) {
-        Some(count) => Ok(Line::Hosts(count)),
-        None => Err(LineFault::Syntax),
-    }
+    let Some(count) = read_positive(word) else {
+        return Err(LineFault::Syntax);
+    };
+    *line = Line::Hosts(count);
+    Ok(())
 }
 
 /// `client C`, from the words behind the first.
-pub(crate) fn read_client(alloc: Global, words: &[&[u8]]) -> Result<Line, LineFault>
-    ensures { IsAnswer result (client_line (texts words.now)) }
+pub(crate) fn read_client(alloc: Global, words: &[&[u8]], line: &mut Line) -> Result<(), LineFault>
+    ensures { IsLeft result line.new (client_line (texts words.now)) }
 {
     let Some(word) = only(words) else {
         return Err(LineFault::Syntax);
     };
-    match read_name(alloc, word) {
-        Ok(name) => Ok(Line::Client(name)),
-        Err(fault) => Err(fault),
-    }
+    let name = read_name(alloc, word)?;
+    *line = Line::Client(name);
+    Ok(())
 }
 
 /// `show G`, from the words behind the first.
-pub(crate) fn read_show(alloc: Global, words: &[&[u8]]) -> Result<Line, LineFault>
-    ensures { IsAnswer result (show_line (texts words.now)) }
+pub(crate) fn read_show(alloc: Global, words: &[&[u8]], line: &mut Line) -> Result<(), LineFault>
+    ensures { IsLeft result line.new (show_line (texts words.now)) }
 {
     let Some(word) = only(words) else {
         return Err(LineFault::Syntax);
     };
-    match read_name(alloc, word) {
-        Ok(name) => Ok(Line::Show(name)),
-        Err(fault) => Err(fault),
-    }
+    let name = read_name(alloc, word)?;
+    *line = Line::Show(name);
+    Ok(())
 }
 
 /// `locations G`, from the words behind the first.
-pub(crate) fn read_locations(alloc: Global, words: &[&[u8]]) -> Result<Line, LineFault>
-    ensures { IsAnswer result (locations_line (texts words.now)) }
+pub(crate) fn read_locations(
+    alloc: Global,
+    words: &[&[u8]],
+    line: &mut Line,
+) -> Result<(), LineFault>
+    ensures { IsLeft result line.new (locations_line (texts words.now)) }
 {
     let Some(word) = only(words) else {
         return Err(LineFault::Syntax);
     };
-    match read_name(alloc, word) {
-        Ok(name) => Ok(Line::Locations(name)),
-        Err(fault) => Err(fault),
-    }
+    let name = read_name(alloc, word)?;
+    *line = Line::Locations(name);
+    Ok(())
 }
 
 /// `id G`, from the words behind the first.
-pub(crate) fn read_id(alloc: Global, words: &[&[u8]]) -> Result<Line, LineFault>
-    ensures { IsAnswer result (id_line (texts words.now)) }
+pub(crate) fn read_id(alloc: Global, words: &[&[u8]], line: &mut Line) -> Result<(), LineFault>
+    ensures { IsLeft result line.new (id_line (texts words.now)) }
 {
     let Some(word) = only(words) else {
         return Err(LineFault::Syntax);
     };
-    match read_name(alloc, word) {
-        Ok(name) => Ok(Line::Id(name)),
-        Err(fault) => Err(fault),
-    }
+    let name = read_name(alloc, word)?;
+    *line = Line::Id(name);
+    Ok(())
 }
 
 /// `ref G`, from the words behind the first.
-pub(crate) fn read_ref(alloc: Global, words: &[&[u8]]) -> Result<Line, LineFault>
-    ensures { IsAnswer result (ref_line (texts words.now)) }
+pub(crate) fn read_ref(alloc: Global, words: &[&[u8]], line: &mut Line) -> Result<(), LineFault>
+    ensures { IsLeft result line.new (ref_line (texts words.now)) }
 {
     let Some(word) = only(words) else {
         return Err(LineFault::Syntax);
     };
-    match read_name(alloc, word) {
-        Ok(name) => Ok(Line::Ref(name)),
-        Err(fault) => Err(fault),
-    }
+    let name = read_name(alloc, word)?;
+    *line = Line::Ref(name);
+    Ok(())
 }
 
 /// `delete G`, from the words behind the first.
-pub(crate) fn read_delete(alloc: Global, words: &[&[u8]]) -> Result<Line, LineFault>
-    ensures { IsAnswer result (delete_line (texts words.now)) }
+pub(crate) fn read_delete(alloc: Global, words: &[&[u8]], line: &mut Line) -> Result<(), LineFault>
+    ensures { IsLeft result line.new (delete_line (texts words.now)) }
 {
     let Some(word) = only(words) else {
         return Err(LineFault::Syntax);
     };
-    match read_name(alloc, word) {
-        Ok(name) => Ok(Line::Delete(name)),
-        Err(fault) => Err(fault),
-    }
+    let name = read_name(alloc, word)?;
+    *line = Line::Delete(name);
+    Ok(())
 }
 
 /// `tick N`, from the words behind the first.
-pub(crate) fn read_tick(words: &[&[u8]]) -> Result<Line, LineFault>
-    ensures { result ≡ tick_line (texts words.now) }
+pub(crate) fn read_tick(words: &[&[u8]], line: &mut Line) -> Result<(), LineFault>
+    ensures { IsPut result line.new (tick_line (texts words.now)) }
 {
     let Some(word) = only(words) else {
         return Err(LineFault::Syntax);
     };
     match read_number(word) {
-        Some(count) if count <= u32::MAX as u128 => Ok(Line::Tick(count as u32)),
+        Some(count) if count <= u32::MAX as u128 => {
+            *line = Line::Tick(count as u32);
+            Ok(())
+        }
         _ => Err(LineFault::Syntax),
     }
 }
@@ -168,9 +170,10 @@ fn spell_group(
     kind: &[u8],
     style: &[u8],
     hosts: &[&[u8]],
-) -> Result<Line, LineFault>
+    line: &mut Line,
+) -> Result<(), LineFault>
     requires { is_script_name name.now ≡ true }
-    ensures { IsAnswer result (group_of name.now (kind_of kind.now) (style_of style.now) (host_numbers (texts hosts.now))) }
+    ensures { IsLeft result line.new (group_of name.now (kind_of kind.now) (style_of style.now) (host_numbers (texts hosts.now))) }
 {
     let Some(kind) = find_kind(kind) else {
         return Err(LineFault::Syntax);
@@ -182,20 +185,19 @@ fn spell_group(
         Ok(members) => members,
         Err(fault) => return Err(fault),
     };
-    match read_name(alloc, name) {
-        Ok(name) => Ok(Line::Group {
-            name,
-            kind,
-            style,
-            members,
-        }),
-        Err(fault) => Err(fault),
-    }
+    let name = read_name(alloc, name)?;
+    *line = Line::Group {
+        name,
+        kind,
+        style,
+        members,
+    };
+    Ok(())
 }
 
 /// `group G KIND STYLE H..`, from the words behind the first.
-pub(crate) fn read_group(alloc: Global, words: &[&[u8]]) -> Result<Line, LineFault>
-    ensures { IsAnswer result (group_line (texts words.now)) }
+pub(crate) fn read_group(alloc: Global, words: &[&[u8]], line: &mut Line) -> Result<(), LineFault>
+    ensures { IsLeft result line.new (group_line (texts words.now)) }
 {
     let Some((name, rest)) = split_first(words) else {
         return Err(LineFault::Syntax);
@@ -207,7 +209,7 @@ pub(crate) fn read_group(alloc: Global, words: &[&[u8]]) -> Result<Line, LineFau
         return Err(LineFault::Syntax);
     };
     if is_script_name(name) {
-        spell_group(alloc, name, kind, style, hosts)
+        spell_group(alloc, name, kind, style, hosts, line)
     } else {
         Err(LineFault::Syntax)
     }
@@ -219,29 +221,33 @@ fn build_call(
     group: &[u8],
     op: &[u8],
     rest: &[&[u8]],
-) -> Result<Line, LineFault>
+    line: &mut Line,
+) -> Result<(), LineFault>
     requires client_named { is_script_name client.now ≡ true }
     requires group_named { is_script_name group.now ≡ true }
     requires operation { is_operation op.now ≡ true }
-    ensures { IsAnswer result (Ok (Line.Call client.now group.now op.now (texts rest.now))) }
+    ensures { IsLeft result line.new (Ok (Line.Call client.now group.now op.now (texts rest.now))) }
 {
     let client = read_name(alloc, client)?;
     let group = read_name(alloc, group)?;
     let op = read_any_name(alloc, op)?;
     match Words::of(alloc, rest) {
-        Ok(words) => Ok(Line::Call {
-            client,
-            group,
-            op,
-            words,
-        }),
+        Ok(words) => {
+            *line = Line::Call {
+                client,
+                group,
+                op,
+                words,
+            };
+            Ok(())
+        }
         Err(NoMemory) => Err(LineFault::NoMemory),
     }
 }
 
 /// `call C G OP WORD..`, from the words behind the first.
-pub(crate) fn read_call(alloc: Global, words: &[&[u8]]) -> Result<Line, LineFault>
-    ensures { IsAnswer result (call_line (texts words.now)) }
+pub(crate) fn read_call(alloc: Global, words: &[&[u8]], line: &mut Line) -> Result<(), LineFault>
+    ensures { IsLeft result line.new (call_line (texts words.now)) }
 {
     let Some((client, rest)) = split_first(words) else {
         return Err(LineFault::Syntax);
@@ -253,25 +259,26 @@ pub(crate) fn read_call(alloc: Global, words: &[&[u8]]) -> Result<Line, LineFaul
         return Err(LineFault::Syntax);
     };
     if is_script_name(client) && is_script_name(group) && is_operation(op) {
-        build_call(alloc, client, group, op, rest)
+        build_call(alloc, client, group, op, rest, line)
     } else {
         Err(LineFault::Syntax)
     }
 }
 
-fn build_bind(alloc: Global, client: &[u8], group: &[u8]) -> Result<Line, LineFault>
+fn build_bind(alloc: Global, client: &[u8], group: &[u8], line: &mut Line) -> Result<(), LineFault>
     requires client_named { is_script_name client.now ≡ true }
     requires group_named { is_script_name group.now ≡ true }
-    ensures { IsAnswer result (Ok (Line.Bind client.now group.now)) }
+    ensures { IsLeft result line.new (Ok (Line.Bind client.now group.now)) }
 {
     let client = read_name(alloc, client)?;
     let group = read_name(alloc, group)?;
-    Ok(Line::Bind { client, group })
+    *line = Line::Bind { client, group };
+    Ok(())
 }
 
 /// `bind C G`, from the words behind the first.
-pub(crate) fn read_bind(alloc: Global, words: &[&[u8]]) -> Result<Line, LineFault>
-    ensures { IsAnswer result (bind_line (texts words.now)) }
+pub(crate) fn read_bind(alloc: Global, words: &[&[u8]], line: &mut Line) -> Result<(), LineFault>
+    ensures { IsLeft result line.new (bind_line (texts words.now)) }
 {
     let Some((client, rest)) = split_first(words) else {
         return Err(LineFault::Syntax);
@@ -280,23 +287,22 @@ pub(crate) fn read_bind(alloc: Global, words: &[&[u8]]) -> Result<Line, LineFaul
         return Err(LineFault::Syntax);
     };
     if is_script_name(client) && is_script_name(group) {
-        build_bind(alloc, client, group)
+        build_bind(alloc, client, group, line)
     } else {
         Err(LineFault::Syntax)
     }
 }
 
 /// `timeout C`, from the words behind the first.
-pub(crate) fn read_timeout(alloc: Global, words: &[&[u8]]) -> Result<Line, LineFault>
-    ensures { IsAnswer result (timeout_line (texts words.now)) }
+pub(crate) fn read_timeout(alloc: Global, words: &[&[u8]], line: &mut Line) -> Result<(), LineFault>
+    ensures { IsLeft result line.new (timeout_line (texts words.now)) }
 {
     let Some(word) = only(words) else {
         return Err(LineFault::Syntax);
     };
-    match read_name(alloc, word) {
-        Ok(name) => Ok(Line::Timeout(name)),
-        Err(fault) => Err(fault),
-    }
+    let name = read_name(alloc, word)?;
+    *line = Line::Timeout(name);
+    Ok(())
 }
 
 fn find_stop(word: &[u8]) -> Option<Stop>
@@ -325,8 +331,8 @@ fn read_stop(words: &[&[u8]]) -> Option<Stop>
 }
 
 /// `deliver K`, alone or with a stop, from the words behind the first.
-pub(crate) fn read_deliver(words: &[&[u8]]) -> Result<Line, LineFault>
-    ensures { result ≡ deliver_line (texts words.now) }
+pub(crate) fn read_deliver(words: &[&[u8]], line: &mut Line) -> Result<(), LineFault>
+    ensures { IsPut result line.new (deliver_line (texts words.now)) }
 {
     let Some((number, rest)) = split_first(words) else {
         return Err(LineFault::Syntax);
@@ -334,15 +340,17 @@ pub(crate) fn read_deliver(words: &[&[u8]]) -> Result<Line, LineFault>
     let Some(number) = read_positive(number) else {
         return Err(LineFault::Syntax);
     };
-    match read_stop(rest) {
-        Some(stop) => Ok(Line::Deliver { number, stop }),
-        None => Err(LineFault::Syntax),
-    }
+    let Some(stop) = read_stop(rest) else {
+        return Err(LineFault::Syntax);
+    };
+    *line = Line::Deliver { number, stop };
+    Ok(())
 }
 
 /// `inject H HEX`, from the words behind the first.
-pub(crate) fn read_inject(alloc: Global, words: &[&[u8]]) -> Result<Line, LineFault>
-    ensures { IsAnswer result (inject_line (texts words.now)) }
+#[inline(always)]
+pub(crate) fn read_inject(alloc: Global, words: &[&[u8]], line: &mut Line) -> Result<(), LineFault>
+    ensures { IsLeft result line.new (inject_line (texts words.now)) }
 {
     let Some((host, rest)) = split_first(words) else {
         return Err(LineFault::Syntax);
@@ -353,13 +361,12 @@ pub(crate) fn read_inject(alloc: Global, words: &[&[u8]]) -> Result<Line, LineFa
     let Some(octets) = only(rest) else {
         return Err(LineFault::Syntax);
     };
-    match read_octets(alloc, octets) {
-        Ok(bytes) => Ok(Line::Inject {
-            host,
-            bytes: Bytes::from_vec(bytes),
-        }),
-        Err(fault) => Err(fault),
-    }
+    let bytes = read_octets(alloc, octets)?;
+    *line = Line::Inject {
+        host,
+        bytes: Bytes::from_vec(bytes),
+    };
+    Ok(())
 }
 
 /// The one host that words name by its number.
@@ -371,23 +378,25 @@ pub(crate) fn read_only_host(words: &[&[u8]]) -> Option<u64>
 }
 
 /// `crash H`, from the words behind the first.
-pub(crate) fn read_crash(words: &[&[u8]]) -> Result<Line, LineFault>
-    ensures { result ≡ crash_line (texts words.now) }
+pub(crate) fn read_crash(words: &[&[u8]], line: &mut Line) -> Result<(), LineFault>
+    ensures { IsPut result line.new (crash_line (texts words.now)) }
 {
-    match read_only_host(words) {
-        Some(host) => Ok(Line::Crash(host)),
-        None => Err(LineFault::Syntax),
-    }
+    let Some(host) = read_only_host(words) else {
+        return Err(LineFault::Syntax);
+    };
+    *line = Line::Crash(host);
+    Ok(())
 }
 
 /// `restart H`, from the words behind the first.
-pub(crate) fn read_restart(words: &[&[u8]]) -> Result<Line, LineFault>
-    ensures { result ≡ restart_line (texts words.now) }
+pub(crate) fn read_restart(words: &[&[u8]], line: &mut Line) -> Result<(), LineFault>
+    ensures { IsPut result line.new (restart_line (texts words.now)) }
 {
-    match read_only_host(words) {
-        Some(host) => Ok(Line::Restart(host)),
-        None => Err(LineFault::Syntax),
-    }
+    let Some(host) = read_only_host(words) else {
+        return Err(LineFault::Syntax);
+    };
+    *line = Line::Restart(host);
+    Ok(())
 }
 
 /// `add G H` and its like, from the words behind the first.
@@ -395,8 +404,9 @@ pub(crate) fn read_change(
     alloc: Global,
     change: MemberChange,
     words: &[&[u8]],
-) -> Result<Line, LineFault>
-    ensures { IsAnswer result (change_line change (texts words.now)) }
+    line: &mut Line,
+) -> Result<(), LineFault>
+    ensures { IsLeft result line.new (change_line change (texts words.now)) }
 {
     let Some((group, rest)) = split_first(words) else {
         return Err(LineFault::Syntax);
@@ -404,19 +414,18 @@ pub(crate) fn read_change(
     let Some(host) = read_only_host(rest) else {
         return Err(LineFault::Syntax);
     };
-    match read_name(alloc, group) {
-        Ok(group) => Ok(Line::Change {
-            change,
-            group,
-            host,
-        }),
-        Err(fault) => Err(fault),
-    }
+    let group = read_name(alloc, group)?;
+    *line = Line::Change {
+        change,
+        group,
+        host,
+    };
+    Ok(())
 }
 
 /// `member G H`, from the words behind the first.
-pub(crate) fn read_member(alloc: Global, words: &[&[u8]]) -> Result<Line, LineFault>
-    ensures { IsAnswer result (member_line (texts words.now)) }
+pub(crate) fn read_member(alloc: Global, words: &[&[u8]], line: &mut Line) -> Result<(), LineFault>
+    ensures { IsLeft result line.new (member_line (texts words.now)) }
 {
     let Some((group, rest)) = split_first(words) else {
         return Err(LineFault::Syntax);
@@ -424,15 +433,14 @@ pub(crate) fn read_member(alloc: Global, words: &[&[u8]]) -> Result<Line, LineFa
     let Some(host) = read_only_host(rest) else {
         return Err(LineFault::Syntax);
     };
-    match read_name(alloc, group) {
-        Ok(group) => Ok(Line::MemberRef { group, host }),
-        Err(fault) => Err(fault),
-    }
+    let group = read_name(alloc, group)?;
+    *line = Line::MemberRef { group, host };
+    Ok(())
 }
 
 /// `grow G H`, from the words behind the first.
-pub(crate) fn read_grow(alloc: Global, words: &[&[u8]]) -> Result<Line, LineFault>
-    ensures { IsAnswer result (grow_line (texts words.now)) }
+pub(crate) fn read_grow(alloc: Global, words: &[&[u8]], line: &mut Line) -> Result<(), LineFault>
+    ensures { IsLeft result line.new (grow_line (texts words.now)) }
 {
     let Some((group, rest)) = split_first(words) else {
         return Err(LineFault::Syntax);
@@ -440,8 +448,7 @@ pub(crate) fn read_grow(alloc: Global, words: &[&[u8]]) -> Result<Line, LineFaul
     let Some(host) = read_only_host(rest) else {
         return Err(LineFault::Syntax);
     };
-    match read_name(alloc, group) {
-        Ok(group) => Ok(Line::Grow { group, host }),
-        Err(fault) => Err(fault),
-    }
+    let group = read_name(alloc, group)?;
+    *line = Line::Grow { group, host };
+    Ok(())
 }

@@ -1,6 +1,6 @@
 ghost use Rattle.std.specs.Prelude.{◌≡◌, ℕ, ◌<◌, ◌≤◌, if◌then◌else◌, List, [], length, Some, None, Ok, Err, IfOk, IfSome};
 ghost use Rattle.fault_script.specs.Words.{words, texts};
-ghost use Rattle.fault_script.specs.Faults.{IsAnswer};
+ghost use Rattle.fault_script.specs.Faults.{IsAnswer, IsLeft};
 ghost use Rattle.fault_script.specs.Forms.{line_of, form_of, as_some, parse_words, parse, IsSplit};
 ghost use Rattle.fault_script.specs.Grammar.{Spells};
 ghost use Rattle.fault_script.specs.declared.lines.Line.{Line};
@@ -22,11 +22,11 @@ use std::alloc::Global;
 /// The longest line, in bytes without its end.
 const LINE_LIMIT: usize = 4096;
 
-/// The line of some words: a line is refused as `later` or `syntax`, for the first of these that applies.
-// It is a function by itself, since a line is large: each form is written where the caller wants it, and not moved.
+/// Reads the line of some words. It is refused as `later` or `syntax`, for the first of these that applies.
+// A line is large: each form writes it where the caller wants it, so that it is never moved.
 #[inline(never)]
-pub fn read_words(alloc: Global, words: &[&[u8]]) -> Result<Line, LineFault>
-    ensures { IsAnswer result (form_of (texts words.now)) }
+pub fn read_words(alloc: Global, words: &[&[u8]], line: &mut Line) -> Result<(), LineFault>
+    ensures { IsLeft result line.new (form_of (texts words.now)) }
 {
     let Some((first, rest)) = split_first(words) else {
         return Err(LineFault::Syntax);
@@ -36,36 +36,36 @@ pub fn read_words(alloc: Global, words: &[&[u8]]) -> Result<Line, LineFault>
     }
     match find_verb(first) {
         None => Err(LineFault::Syntax),
-        Some(Verb::Hosts) => read_hosts(rest),
-        Some(Verb::Group) => read_group(alloc, rest),
-        Some(Verb::Client) => read_client(alloc, rest),
-        Some(Verb::Call) => read_call(alloc, rest),
-        Some(Verb::Bind) => read_bind(alloc, rest),
-        Some(Verb::Timeout) => read_timeout(alloc, rest),
-        Some(Verb::Deliver) => read_deliver(rest),
-        Some(Verb::Tick) => read_tick(rest),
-        Some(Verb::Show) => read_show(alloc, rest),
-        Some(Verb::Locations) => read_locations(alloc, rest),
-        Some(Verb::Id) => read_id(alloc, rest),
-        Some(Verb::Ref) => read_ref(alloc, rest),
-        Some(Verb::MemberRef) => read_member(alloc, rest),
-        Some(Verb::Inject) => read_inject(alloc, rest),
-        Some(Verb::Change(change)) => read_change(alloc, change, rest),
-        Some(Verb::Crash) => read_crash(rest),
-        Some(Verb::Restart) => read_restart(rest),
-        Some(Verb::Create) => read_create(alloc, rest),
-        Some(Verb::Set) => read_set(alloc, rest),
-        Some(Verb::Unset) => read_unset(alloc, rest),
-        Some(Verb::Get) => read_get(alloc, rest),
-        Some(Verb::Grow) => read_grow(alloc, rest),
-        Some(Verb::Delete) => read_delete(alloc, rest),
-        Some(Verb::Poll) => read_poll(alloc, rest),
-        Some(Verb::Sweep) => read_sweep(alloc, rest),
-        Some(Verb::Subscribe) => read_subscribe(alloc, rest),
-        Some(Verb::Unsubscribe) => read_unsubscribe(alloc, rest),
-        Some(Verb::Pull) => read_pull(alloc, rest),
-        Some(Verb::Checkpoint) => read_checkpoint(alloc, rest),
-        Some(Verb::Update) => read_update(alloc, rest),
+        Some(Verb::Hosts) => read_hosts(rest, line),
+        Some(Verb::Group) => read_group(alloc, rest, line),
+        Some(Verb::Client) => read_client(alloc, rest, line),
+        Some(Verb::Call) => read_call(alloc, rest, line),
+        Some(Verb::Bind) => read_bind(alloc, rest, line),
+        Some(Verb::Timeout) => read_timeout(alloc, rest, line),
+        Some(Verb::Deliver) => read_deliver(rest, line),
+        Some(Verb::Tick) => read_tick(rest, line),
+        Some(Verb::Show) => read_show(alloc, rest, line),
+        Some(Verb::Locations) => read_locations(alloc, rest, line),
+        Some(Verb::Id) => read_id(alloc, rest, line),
+        Some(Verb::Ref) => read_ref(alloc, rest, line),
+        Some(Verb::MemberRef) => read_member(alloc, rest, line),
+        Some(Verb::Inject) => read_inject(alloc, rest, line),
+        Some(Verb::Change(change)) => read_change(alloc, change, rest, line),
+        Some(Verb::Crash) => read_crash(rest, line),
+        Some(Verb::Restart) => read_restart(rest, line),
+        Some(Verb::Create) => read_create(alloc, rest, line),
+        Some(Verb::Set) => read_set(alloc, rest, line),
+        Some(Verb::Unset) => read_unset(alloc, rest, line),
+        Some(Verb::Get) => read_get(alloc, rest, line),
+        Some(Verb::Grow) => read_grow(alloc, rest, line),
+        Some(Verb::Delete) => read_delete(alloc, rest, line),
+        Some(Verb::Poll) => read_poll(alloc, rest, line),
+        Some(Verb::Sweep) => read_sweep(alloc, rest, line),
+        Some(Verb::Subscribe) => read_subscribe(alloc, rest, line),
+        Some(Verb::Unsubscribe) => read_unsubscribe(alloc, rest, line),
+        Some(Verb::Pull) => read_pull(alloc, rest, line),
+        Some(Verb::Checkpoint) => read_checkpoint(alloc, rest, line),
+        Some(Verb::Update) => read_update(alloc, rest, line),
     }
 }
 
@@ -105,7 +105,8 @@ fn read_text(alloc: Global, text: &[u8]) -> Result<Option<Line>, LineFault>
     if !split_line(text, &mut words)? {
         return Ok(None);
     }
-    let line = read_words(alloc, words.as_slice())?;
+    let mut line = Line::Hosts(0);
+    read_words(alloc, words.as_slice(), &mut line)?;
     Ok(Some(line))
 }
 

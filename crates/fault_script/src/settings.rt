@@ -1,6 +1,6 @@
 ghost use Rattle.std.specs.Prelude.{◌≡◌, None, Some, MatchOption};
 ghost use Rattle.fault_script.specs.Words.{texts};
-ghost use Rattle.fault_script.specs.Faults.{IsAnswer};
+ghost use Rattle.fault_script.specs.Faults.{IsLeft};
 ghost use Rattle.fault_script.specs.Arguments.{IsFound};
 ghost use Rattle.fault_script.specs.Properties.{property_of, property_said};
 ghost use Rattle.fault_script.specs.Forms.{level_of, set_group, set_line, unset_line, get_group, get_line};
@@ -60,8 +60,8 @@ fn split_level<'a, 'b>(words: &'b [&'a [u8]]) -> Option<(Level, &'b [&'a [u8]])>
 }
 
 /// `set group G P V`, from the words behind `group`.
-fn read_set_group(alloc: Global, words: &[&[u8]]) -> Result<Line, LineFault>
-    ensures { IsAnswer result (set_group (texts words.now)) }
+fn read_set_group(alloc: Global, words: &[&[u8]], line: &mut Line) -> Result<(), LineFault>
+    ensures { IsLeft result line.new (set_group (texts words.now)) }
 {
     let Some((group, rest)) = split_first(words) else {
         return Err(LineFault::Syntax);
@@ -74,18 +74,19 @@ fn read_set_group(alloc: Global, words: &[&[u8]]) -> Result<Line, LineFault>
         Ok(property) => property,
         Err(fault) => return Err(fault),
     };
-    Ok(Line::SetGroup { group, property })
+    *line = Line::SetGroup { group, property };
+    Ok(())
 }
 
 /// `set default P V` and its like, from the words behind the first.
-pub(crate) fn read_set(alloc: Global, words: &[&[u8]]) -> Result<Line, LineFault>
-    ensures { IsAnswer result (set_line (texts words.now)) }
+pub(crate) fn read_set(alloc: Global, words: &[&[u8]], line: &mut Line) -> Result<(), LineFault>
+    ensures { IsLeft result line.new (set_line (texts words.now)) }
 {
     let Some((place, rest)) = split_first(words) else {
         return Err(LineFault::Syntax);
     };
     if place == b"group".as_slice() {
-        return read_set_group(alloc, rest);
+        return read_set_group(alloc, rest, line);
     }
     let Some((level, rest)) = split_level(words) else {
         return Err(LineFault::Syntax);
@@ -94,12 +95,13 @@ pub(crate) fn read_set(alloc: Global, words: &[&[u8]]) -> Result<Line, LineFault
         Ok(property) => property,
         Err(fault) => return Err(fault),
     };
-    Ok(Line::Set { level, property })
+    *line = Line::Set { level, property };
+    Ok(())
 }
 
 /// `unset default P` and its like, from the words behind the first.
-pub(crate) fn read_unset(alloc: Global, words: &[&[u8]]) -> Result<Line, LineFault>
-    ensures { IsAnswer result (unset_line (texts words.now)) }
+pub(crate) fn read_unset(alloc: Global, words: &[&[u8]], line: &mut Line) -> Result<(), LineFault>
+    ensures { IsLeft result line.new (unset_line (texts words.now)) }
 {
     let Some((level, rest)) = split_level(words) else {
         return Err(LineFault::Syntax);
@@ -107,15 +109,14 @@ pub(crate) fn read_unset(alloc: Global, words: &[&[u8]]) -> Result<Line, LineFau
     let Some(name) = only(rest) else {
         return Err(LineFault::Syntax);
     };
-    match read_any_name(alloc, name) {
-        Ok(name) => Ok(Line::Unset { level, name }),
-        Err(fault) => Err(fault),
-    }
+    let name = read_any_name(alloc, name)?;
+    *line = Line::Unset { level, name };
+    Ok(())
 }
 
 /// `get group G P`, from the words behind `group`.
-fn read_get_group(alloc: Global, words: &[&[u8]]) -> Result<Line, LineFault>
-    ensures { IsAnswer result (get_group (texts words.now)) }
+fn read_get_group(alloc: Global, words: &[&[u8]], line: &mut Line) -> Result<(), LineFault>
+    ensures { IsLeft result line.new (get_group (texts words.now)) }
 {
     let Some((group, rest)) = split_first(words) else {
         return Err(LineFault::Syntax);
@@ -127,21 +128,20 @@ fn read_get_group(alloc: Global, words: &[&[u8]]) -> Result<Line, LineFault>
         Ok(group) => group,
         Err(fault) => return Err(fault),
     };
-    match read_any_name(alloc, name) {
-        Ok(name) => Ok(Line::GetGroup { group, name }),
-        Err(fault) => Err(fault),
-    }
+    let name = read_any_name(alloc, name)?;
+    *line = Line::GetGroup { group, name };
+    Ok(())
 }
 
 /// `get default P` and its like, from the words behind the first.
-pub(crate) fn read_get(alloc: Global, words: &[&[u8]]) -> Result<Line, LineFault>
-    ensures { IsAnswer result (get_line (texts words.now)) }
+pub(crate) fn read_get(alloc: Global, words: &[&[u8]], line: &mut Line) -> Result<(), LineFault>
+    ensures { IsLeft result line.new (get_line (texts words.now)) }
 {
     let Some((place, rest)) = split_first(words) else {
         return Err(LineFault::Syntax);
     };
     if place == b"group".as_slice() {
-        return read_get_group(alloc, rest);
+        return read_get_group(alloc, rest, line);
     }
     let Some((level, rest)) = split_level(words) else {
         return Err(LineFault::Syntax);
@@ -149,8 +149,7 @@ pub(crate) fn read_get(alloc: Global, words: &[&[u8]]) -> Result<Line, LineFault
     let Some(name) = only(rest) else {
         return Err(LineFault::Syntax);
     };
-    match read_any_name(alloc, name) {
-        Ok(name) => Ok(Line::Get { level, name }),
-        Err(fault) => Err(fault),
-    }
+    let name = read_any_name(alloc, name)?;
+    *line = Line::Get { level, name };
+    Ok(())
 }

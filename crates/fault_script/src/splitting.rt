@@ -1,4 +1,4 @@
-ghost use Rattle.std.specs.Prelude.{◌≡◌, ℕ, ◌+◌, ◌<◌, ◌≤◌, ◌==◌, List, [], ◌∷◌, ◌++◌, length, take, drop, filter, IfOk, IfSome, OnOk, MatchOption};
+ghost use Rattle.std.specs.Prelude.{◌≡◌, ℕ, ◌+◌, ◌<◌, ◌≤◌, ◌==◌, List, [], ◌∷◌, ◌++◌, length, slice_index, take, drop, filter, IfOk, IfSome, IsTrue, OnOk, MatchOption};
 ghost use Rattle.std.specs.List.{list_all, slice_split};
 ghost use Rattle.std.specs.Option.{option_copied};
 ghost use Rattle.memchr.specs.Find.{IsFirstByte};
@@ -14,10 +14,22 @@ const SCRIPT_NAME_LIMIT: usize = 64;
 /// As many words as most lines have at most.
 const FEW_WORDS: usize = 6;
 
+// Whether a word of one byte stands in front of a space.
+fn is_one_byte(line: &[u8]) -> bool
+    ensures { IsTrue result → (1 < length line.now) × (32 < slice_index line.now 0) × (slice_index line.now 1 ≡ 32) }
+{
+    line.len() > 1 && line[0] > b' ' && line[1] == b' '
+}
+
+// Most hosts have one digit. What stands behind it is looked at first, since the search reads many bytes at once.
+#[tactic(auto, using(crate::proofs::SplitLemmas::one_byte_first))]
 fn first_blank(line: &[u8]) -> Option<usize>
     ensures place { IsFirstByte is_blank line.now result }
     ensures within { IfSome result (λ place. place < length line.now) }
 {
+    if is_one_byte(line) {
+        return Some(1);
+    }
     memchr3(b' ', b'\t', b'\r', line)
 }
 

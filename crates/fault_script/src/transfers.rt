@@ -1,5 +1,5 @@
 ghost use Rattle.fault_script.specs.Words.{texts};
-ghost use Rattle.fault_script.specs.Faults.{IsAnswer};
+ghost use Rattle.fault_script.specs.Faults.{IsLeft};
 ghost use Rattle.fault_script.specs.Forms.{checkpoint_line, update_line};
 
 use crate::lines::{Line, LineFault};
@@ -8,27 +8,29 @@ use crate::splitting::only;
 use std::alloc::Global;
 
 /// `checkpoint G`, from the words behind the first.
-pub(crate) fn read_checkpoint(alloc: Global, words: &[&[u8]]) -> Result<Line, LineFault>
-    ensures { IsAnswer result (checkpoint_line (texts words.now)) }
+pub(crate) fn read_checkpoint(
+    alloc: Global,
+    words: &[&[u8]],
+    line: &mut Line,
+) -> Result<(), LineFault>
+    ensures { IsLeft result line.new (checkpoint_line (texts words.now)) }
 {
     let Some(word) = only(words) else {
         return Err(LineFault::Syntax);
     };
-    match read_name(alloc, word) {
-        Ok(name) => Ok(Line::Checkpoint(name)),
-        Err(fault) => Err(fault),
-    }
+    let name = read_name(alloc, word)?;
+    *line = Line::Checkpoint(name);
+    Ok(())
 }
 
 /// `update G`, from the words behind the first.
-pub(crate) fn read_update(alloc: Global, words: &[&[u8]]) -> Result<Line, LineFault>
-    ensures { IsAnswer result (update_line (texts words.now)) }
+pub(crate) fn read_update(alloc: Global, words: &[&[u8]], line: &mut Line) -> Result<(), LineFault>
+    ensures { IsLeft result line.new (update_line (texts words.now)) }
 {
     let Some(word) = only(words) else {
         return Err(LineFault::Syntax);
     };
-    match read_name(alloc, word) {
-        Ok(name) => Ok(Line::Update(name)),
-        Err(fault) => Err(fault),
-    }
+    let name = read_name(alloc, word)?;
+    *line = Line::Update(name);
+    Ok(())
 }

@@ -76,7 +76,7 @@ impl Script {
         LineResult::Goes(report.into_bytes())
     }
 
-    // Acts the line of some words, where it was read: a line is large, and was moved at every hand.
+    // Acts the line of some words, where it was read: a line is large, and is never moved.
     fn play_words<L: Ledger>(
         &mut self,
         alloc: Global,
@@ -87,9 +87,10 @@ impl Script {
         ensures acted { IsActed (effect_of self.old (as_some (form_of (texts words.now)))) self.new steps.old steps.new result }
         ensures next { (number : ℕ) → MayAct self.old number → IfGoes result (MayAct self.new (number + 1)) }
     {
-        match &mut read_words(alloc, words) {
-            Ok(line) => self.play(line, steps),
-            Err(why) => refusal(*why),
+        let mut line = Line::Hosts(0);
+        match read_words(alloc, words, &mut line) {
+            Ok(()) => self.play(&mut line, steps),
+            Err(why) => refusal(why),
         }
     }
 }
