@@ -69,6 +69,20 @@ kept_needs need f k h =
 pub kept_anew : (f : Frames) → IsJudgedAt f.head f.rest → IsKept 0 f
 kept_anew f j = record { judged = j; lacks = λ h. absurd (omega (arith, h)) }
 
+pub kept_taken : (need left : ℕ) (f : Frames) → f.head ≡ None → f.stopped ≡ None → left ≡ length f.rest → f.used ≤ length f.rest
+    → (0 < need → (left ≡ 0) × (need ≡ HEAD_LENGTH)) → IsKept need f
+kept_taken need left f none e is few missing = record {
+  judged = subst (λ (head : Option Head). IsJudgedAt head f.rest) (sym none) tt;
+  lacks = λ h.
+      let m = missing h in
+      let short : length f.rest + need ≤ HEAD_LENGTH = omega (arith, is, m.0, m.1) in
+      record {
+        short = subst (λ (head : Option Head). length f.rest + need ≤ needed head) (sym none) short;
+        settled = omega (arith, few, is, m.0);
+        going = e;
+      };
+}
+
 pub kept_settled : (need : ℕ) (f : Frames) → IsJudgedAt f.head f.rest → f.used ≡ 0 → f.stopped ≡ None → need ≡ needed f.head - length f.rest
     → IsKept need f
 kept_settled need f j u e is = record {

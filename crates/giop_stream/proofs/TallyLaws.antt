@@ -1,5 +1,5 @@
 -- The count against the stream: it keeps the begun messages' ids and bytes.
-use Rattle.std.proofs.Common.{◌≡◌, ℕ, zero, suc, ◌+◌, Bool, true, false, cond, List, [], ◌∷◌, ◌++◌, length, take, drop, Option, Some, None, Result, Ok, Err, refl, sym, ap, ◌∙◌, subst}
+use Rattle.std.proofs.Common.{◌≡◌, ℕ, zero, suc, ◌+◌, Bool, true, false, cond, List, [], ◌∷◌, ◌++◌, length, take, drop, Option, Some, None, Result, Ok, Err, refl, sym, ap, ◌∙◌, subst, arith}
 use Rattle.std.specs.Prelude.{nat_lt, ◌==◌, is_some, slice_get, slice_set, remove, fold, option_map, not, if◌then◌else◌}
 use Rattle.std.specs.List.{position_or_len}
 use Rattle.std.proofs.lemmas.List.{map-append, map-set, length-map, append-nil}
@@ -19,7 +19,7 @@ use Rattle.giop_stream.specs.Parts.{Received, Begun, begun_limit, capped, place_
 use Rattle.giop_stream.specs.Streams.{Streamed, Rest, Stops, at_front, turned, spent_in, stream_on, stream}
 use Rattle.giop_stream.specs.Frames.{Frames, goes_on, Stands}
 use Rattle.giop_stream.specs.Tallies.{brief, briefs, brief_place, spent_by, counted, tally_at, tally_placed, tally_fragment, tally_first, tally, Left}
-use Rattle.giop_stream.proofs.StreamLaws.{stream_parts}
+use Rattle.giop_stream.proofs.StreamLaws.{front_short, stream_parts}
 
 abbrev Agrees : Turn → List Brief → Type 0
 Agrees (Joins os) bs = briefs os ≡ bs
@@ -166,3 +166,9 @@ left_same bs cs xs ys n e r l =
     let B : List Brief → Type 0 = λ bs. Left bs ys n in
     let R : List ℕ → Type 0 = λ xs. Left bs xs n in
     subst B (sym e) (subst R (sym r) l)
+
+-- where no byte waits and no message is begun, nothing is left over
+pub nothing_left : (begun : List Begun) (bytes : List ℕ) (n : ℕ) → length begun ≡ 0 → length bytes ≡ 0 → Left (briefs begun) bytes n → 0 ≡ n
+nothing_left [] [] n b e left = left_at_end [] [] n (front_short [] (omega arith)) left
+nothing_left (o ∷ os) bytes n b e left = absurd (omega (arith, b))
+nothing_left [] (x ∷ xs) n b e left = absurd (omega (arith, e))

@@ -69,6 +69,7 @@ impl MadeWith<Global> for Opened {
 }
 
 #[tactic(auto, unfolding(crate::specs::Parts::message_of))]
+#[inline(always)]
 fn read_whole(alloc: Global, head: Head, payload: &[u8]) -> Result<(Message, Order), StreamFault>
     requires { length payload.now ≤ MESSAGE_LIMIT }
     ensures { Tells (λ m. m) link_fault result (message_of head payload.now) }
@@ -238,6 +239,12 @@ impl Partials {
     {
         self.items.clear();
         self.items.shrink_to_fit();
+    }
+
+    pub fn is_empty(&self) -> bool
+        ensures { result ≡ (length self.now == 0) }
+    {
+        self.items.is_empty()
     }
 
     /// What counts the bytes that belong to no whole message.

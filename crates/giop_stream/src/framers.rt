@@ -1,6 +1,6 @@
 //! The framer: it is fed the bytes of a link in any pieces, and gives its messages.
-ghost use Rattle.std.specs.Prelude.{◌≡◌, ◌≤◌, ℕ, List, [], ◌++◌, length, IsTrue, OnOk, OnErr, IfSome};
-ghost use Rattle.giop_messages.specs.declared.heads.TheConstants.{MESSAGE_LIMIT};
+ghost use Rattle.std.specs.Prelude.{◌≡◌, ◌<◌, ◌≤◌, ℕ, List, [], ◌++◌, length, IsTrue, OnOk, OnErr, IfSome};
+ghost use Rattle.giop_messages.specs.declared.heads.TheConstants.{HEAD_LENGTH, MESSAGE_LIMIT};
 ghost use Rattle.giop_stream.specs.Fronts.{total, needed, header_at_front, fronted, front, IsJudgedAt, IsJudgedHead, IsUnjudged, IsWithin};
 ghost use Rattle.giop_stream.specs.Parts.{Received};
 ghost use Rattle.giop_stream.specs.Streams.{Rest, stream};
@@ -59,6 +59,13 @@ fn needed(head: Option<Head>) -> usize
         None => HEAD_LENGTH,
         Some(head) => HEAD_LENGTH + head.size as usize,
     }
+}
+
+// How many bytes are known to be missing behind a message, of which so many are there: a header's, where none is.
+fn needed_behind(count: usize) -> usize
+    ensures { 0 < result → (count ≡ 0) × (result ≡ HEAD_LENGTH) }
+{
+    if count == 0 { HEAD_LENGTH } else { 0 }
 }
 
 /// What one step over the front of the bytes did.
@@ -161,9 +168,10 @@ impl Framer {
         }
     }
 
-    /// Takes the whole message or part at the front.
-    #[tactic(auto, using(crate::proofs::FrameLaws::kept_anew))]
+    /// Takes the whole message or part at the front. Where no byte is left behind it, a whole header is missing.
+    #[tactic(auto, using(crate::proofs::FrameLaws::kept_taken))]
     fn take(&mut self, head: Head) -> Result<Option<(Message, Order)>, StreamFault>
+        requires going { self.old.stopped ≡ None }
         requires small { total head ≤ MESSAGE_LIMIT }
         requires within { total head ≤ length self.old.rest }
         ensures { Took result self.old head self.new }
@@ -173,8 +181,8 @@ impl Framer {
         match self.partials.take(self.alloc, head, part) {
             Ok(message) => {
                 self.head = None;
-                self.need = 0;
                 self.buffer.skip(count);
+                self.need = needed_behind(self.buffer.len());
                 Ok(message)
             }
             Err(fault) => Err(fault),
@@ -293,6 +301,13 @@ impl Framer {
         }
     }
 
+    // Whether all bytes that came belong to whole messages that were given.
+    fn is_between(&self) -> bool
+        ensures { IsTrue result → (length self.now.begun ≡ 0) × (length self.now.rest ≡ 0) }
+    {
+        self.buffer.len() == 0 && self.partials.is_empty()
+    }
+
     fn left_over(&self) -> u32
         ensures { (n : ℕ) → Left (briefs self.now.begun) self.now.rest n → result ≡ n }
     {
@@ -307,6 +322,10 @@ impl Framer {
         ensures { (fed : List ℕ) (given ms : List Received) (n : ℕ) → Stands self.now fed given
             → stream fed ≡ record { messages = ms; end = Rest n } → result ≡ n }
     {
+        // Most links end so, and then nothing has to be counted.
+        if self.is_between() {
+            return 0;
+        }
         self.left_over()
     }
 }
