@@ -518,6 +518,14 @@ pub fn bytes_line(text: &mut Vec<u8>, alloc: Global, written: &Bytes) -> Result<
     end_line(text)
 }
 
+/// Writes the line of a link that was closed.
+#[inline(never)]
+pub fn closed_line(text: &mut Vec<u8>) -> Result<(), NoMemory>
+    ensures { OnOk result (text.new.items ≡ text.old.items ++ report_text ReportLine.LinkClosed) }
+{
+    word_line(text, b"link closed")
+}
+
 #[inline(never)]
 fn malformed_line(text: &mut Vec<u8>, alloc: Global, why: Why, place: u32) -> Result<(), NoMemory>
     ensures { OnOk result (text.new.items ≡ text.old.items ++ report_text (ReportLine.LinkMalformed why place)) }
@@ -719,7 +727,7 @@ pub fn write_line(text: &mut Vec<u8>, alloc: Global, line: &ReportLine) -> Resul
         } => member_ref_line(text, alloc, group, *host, reference),
         ReportLine::NoGroup { host } => no_group_line(text, alloc, *host),
         ReportLine::Bytes(written) => bytes_line(text, alloc, written),
-        ReportLine::LinkClosed => word_line(text, b"link closed"),
+        ReportLine::LinkClosed => closed_line(text),
         ReportLine::LinkMalformed { why, place } => malformed_line(text, alloc, *why, *place),
         ReportLine::LinkTooLarge(size) => number_line(text, b"link too-large", *size),
         ReportLine::LinkLost => word_line(text, b"link lost"),

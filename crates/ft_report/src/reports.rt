@@ -5,7 +5,7 @@ ghost use Rattle.ft_report.specs.declared.reports.ReportLine.{ReportLine};
 
 use crate::histories::Written;
 use crate::outcomes::ReportOutcome;
-use crate::rendering::{at_line, bytes_line, reply_line, write_line};
+use crate::rendering::{at_line, bytes_line, closed_line, reply_line, write_line};
 use ft_base::{Bytes, Decision, GroupId, HostNo, Ignored, Members, Name, NoMemory, Tick, Version};
 use giop_messages::Why;
 use group_model::ManageFault;
@@ -477,6 +477,20 @@ impl ReportLines {
             return Err(NoMemory);
         }
         self.written = Written::with_bytes(&self.written, bytes);
+        Ok(())
+    }
+
+    /// Adds that a link was closed, as most of them are, as the last line; where no memory is left nothing is said of the
+    /// lines.
+    pub fn push_closed(&mut self) -> Result<(), NoMemory>
+        ensures { OnOk result (self.new ≡ self.old ++ ReportLine.LinkClosed ∷ []) }
+    {
+        let room = room_of_first(&mut self.text, self.alloc);
+        if room.is_err() || closed_line(&mut self.text).is_err() {
+            clear(&mut self.text, &mut self.written);
+            return Err(NoMemory);
+        }
+        self.written = Written::with(&self.written, &ReportLine::LinkClosed);
         Ok(())
     }
 

@@ -2,6 +2,7 @@ ghost use Rattle.std.specs.Prelude.{◌≡◌, ℕ, ◌+◌, ◌≤◌, ◌^◌,
 ghost use Rattle.ft_world.specs.Acts.{act, act_first};
 ghost use Rattle.world_turns.specs.Answers.{Acts, Did, IfRefused};
 ghost use Rattle.ft_world.specs.Lines.{IsTimely};
+ghost use Rattle.world_management.specs.Properties.{set_group_line, set_line};
 ghost use Rattle.world_monitors.specs.Subscribing.{subscribe_line};
 ghost use Rattle.script_world.specs.Sound.{HasActed, IsKeptWorld};
 ghost use Rattle.world_turns.specs.Turns.{first_cause, total_causes, totals_of};
@@ -11,9 +12,10 @@ use crate::deliveries::deliver_line;
 use crate::links::inject_line;
 use crate::retrying::{bind_line, timeout_line};
 use fault_notifier::EVENT_LIMIT;
-use fault_script::{LimitName, Line, LineFault};
+use fault_script::{Level, LimitName, Line, LineFault};
 use ft_base::{Bytes, Name, Steps};
 use ft_report::ReportLines;
+use property_manager::Property;
 use script_world::{BYTE_LIMIT, ENTRY_LIMIT, MESSAGE_LIMIT, World};
 use std::mem;
 use std::sync::ledger::Ledger;
@@ -46,6 +48,28 @@ fn subscribe_by(
     subscribe_line(world, subscriber, filter)
 }
 
+// Sets a property that is copied. This and the next are functions by themselves, since the places of all that a function
+// copies are cleared when it is entered, and most lines copy nothing.
+#[inline(never)]
+fn set_by(world: &mut World, level: Level, property: &Property) -> Result<ReportLines, LineFault>
+    ensures { (calls : ℕ) → Acts (set_line world.old level property.now) result world.old world.new calls calls }
+{
+    let property = property.copy(world.alloc())?;
+    set_line(world, level, property)
+}
+
+#[inline(never)]
+fn set_group_by(
+    world: &mut World,
+    group: &Name,
+    property: &Property,
+) -> Result<ReportLines, LineFault>
+    ensures { (calls : ℕ) → Acts (set_group_line world.old group.now property.now) result world.old world.new calls calls }
+{
+    let property = property.copy(world.alloc())?;
+    set_group_line(world, group, property)
+}
+
 // What a line does, before its totals are judged. What is kept of a line is copied from it, but for a link's bytes, which
 // are taken: they are left empty.
 #[inline(always)]
@@ -73,10 +97,8 @@ fn act_first<L: Ledger>(
             criteria,
         } => create_line(world, name.copy(alloc)?, *kind, criteria, steps),
         Line::Delete(name) => delete_line(world, name),
-        Line::Set { level, property } => set_line(world, *level, property.copy(alloc)?),
-        Line::SetGroup { group, property } => {
-            set_group_line(world, group, property.copy(alloc)?)
-        }
+        Line::Set { level, property } => set_by(world, *level, property),
+        Line::SetGroup { group, property } => set_group_by(world, group, property),
         Line::Unset { level, name } => unset_line(world, *level, name.copy(alloc)?),
         Line::Get { level, name } => get_line(world, *level, name),
         Line::GetGroup { group, name } => get_group_line(world, group, name),

@@ -39,7 +39,7 @@ use script_world::World;
 use std::alloc::Global;
 use std::sync::ledger::Ledger;
 use sys_faults::Answer;
-use world_turns::{Named, group_with_number, one_line, send_all};
+use world_turns::{Named, group_with_number, one_line, send_all_at};
 
 /// What a host says to a request, and what is printed behind that: what goes to other members.
 #[derive(Drop)]
@@ -80,13 +80,16 @@ fn push_answer(
     report.append(orders)
 }
 
-fn end_line(end: StreamEnd) -> ReportLine
-    ensures { result ≡ end_line end }
+// Prints how a link ended.
+fn push_end(end: StreamEnd, report: &mut ReportLines) -> Result<(), NoMemory>
+    ensures { OnOk result (report.new ≡ report.old ++ end_line end ∷ []) }
 {
     match end {
-        StreamEnd::Closed => ReportLine::LinkClosed,
-        StreamEnd::Malformed { why, place } => ReportLine::LinkMalformed { why, place },
-        StreamEnd::TooLarge(size) => ReportLine::LinkTooLarge(size),
+        StreamEnd::Closed => report.push_closed(),
+        StreamEnd::Malformed { why, place } => {
+            report.push(ReportLine::LinkMalformed { why, place })
+        }
+        StreamEnd::TooLarge(size) => report.push(ReportLine::LinkTooLarge(size)),
     }
 }
 
@@ -186,11 +189,8 @@ fn answered(
         return Ok(no_object(alloc));
     };
     let port = port_answer(world, place, gives, answer)?;
-    let group = world.group(place).id();
-    let name = world.group(place).name().copy(alloc)?;
-    report.push_at(host, &name, decision)?;
-    let mut orders = ReportLines::new(alloc);
-    send_all(world, &mut orders, group, &name, host, out)?;
+    report.push_at(host, world.group(place).name(), decision)?;
+    let orders = send_all_at(world, place, host, out)?;
     Ok(Said {
         answer: port,
         orders,
@@ -216,7 +216,23 @@ fn ask_at<L: Ledger>(
 {
     answers_are_in_form();
     world.group(place).is_sound();
-    let gives = gives_asked(world, place, &asked.op);
+    // The operation is looked up by itself: where a part of a request is pointed at, all of it is written down first, and
+    // then once more where it goes.
+    let Asked {
+        version,
+        key,
+        bad_context,
+        op,
+        body,
+    } = asked;
+    let gives = gives_asked(world, place, &op);
+    let asked = Asked {
+        version,
+        key,
+        bad_context,
+        op,
+        body,
+    };
     let event = Event::Request {
         host,
         clock: world.host_clock(host),
@@ -399,7 +415,7 @@ fn link<L: Ledger>(
     };
     let bytes = end_bytes(alloc, end)?;
     push_bytes(bytes, &mut report)?;
-    report.push(end_line(end))?;
+    push_end(end, &mut report)?;
     Ok(report)
 }
 

@@ -1,6 +1,7 @@
 -- What is sent, one after another.
-use Rattle.std.proofs.Common.{◌≡◌, ℕ, suc, ◌+◌, arith, List, [], ◌∷◌, ◌++◌, length, refl, sym, ap, subst, ◌∙◌}
+use Rattle.std.proofs.Common.{◌≡◌, ◌==◌, ℕ, suc, ◌+◌, arith, true, List, [], ◌∷◌, ◌++◌, length, refl, sym, ap, subst, ◌∙◌}
 use Rattle.std.specs.Prelude.{map}
+use Rattle.std.proofs.lemmas.Bool.Decides.{nat_tests}
 use Rattle.ft_base.specs.declared.numbers.GroupId.{GroupId}
 use Rattle.ft_base.specs.declared.numbers.HostNo.{HostNo}
 use Rattle.ft_report.specs.declared.reports.ReportLine.{ReportLine}
@@ -71,3 +72,12 @@ module _ (w now next : World) (group : GroupId) (done : List Out) (e : Out) (now
 pub no_lines : (first : List ReportLine) (n : ℕ) (name : List ℕ) (from : HostNo) → first ≡ first ++ sent_lines n name from []
 unfolding sent_lines
 no_lines first n name from = sym (none_more first)
+
+-- where nothing is sent nothing is printed
+pub none_printed : (lines : List ReportLine) (held outs : List Out) (n : ℕ) (name : List ℕ) (from : HostNo) →
+    lines ≡ [] → held ≡ outs → (length held == 0) ≡ true → lines ≡ sent_lines n name from outs
+unfolding sent_lines
+none_printed lines [] outs n name from none is empty = none ∙ ap (λ (os : List Out). sent_lines n name from os) is
+none_printed lines (o ∷ os) outs n name from none is empty =
+    let no : length (o ∷ os) ≡ 0 = grind (arith, nat_tests) in
+    absurd (omega (arith, no))

@@ -8,4 +8,4 @@ mod sending;
 
 pub use lines::one_line;
 pub use naming::{Named, gone, group_called, group_with_number, late_line};
-pub use sending::{push_view, send_all};
+pub use sending::{push_view, send_all, send_all_at};

@@ -1,7 +1,8 @@
 //! What a group sends becomes messages, whose bytes are counted.
-ghost use Rattle.std.specs.Prelude.{◌≡◌, ◌+◌, ◌++◌, ◌<◌, ◌^◌, [], ◌∷◌, IfOk, OnOk, length};
+ghost use Rattle.std.specs.Prelude.{◌≡◌, ◌+◌, ◌++◌, ◌<◌, ◌^◌, [], ◌∷◌, IfOk, OnOk, Some, length, slice_get};
 ghost use Rattle.std.specs.List.{AllByRecursion};
 ghost use Rattle.world_turns.specs.Sending.{all_carried, all_sent, carried, payload, payloads, request_payload, sent_line, sent_lines, view_line};
+ghost use Rattle.script_groups.specs.Groups.{ScriptGroup as Group};
 ghost use Rattle.script_world.specs.Sound.{IsOnItsWay};
 ghost use Rattle.script_world.specs.World.{at_most_one_past, with_messages};
 
@@ -159,6 +160,31 @@ fn send_each(
         send_out(world, report, group, name, from, out)?;
     }
     Ok(())
+}
+
+/// Sends all of them for the group at this place, in order, prints each, and counts their bytes. The group's name is
+/// copied only where there is something to send.
+pub fn send_all_at(
+    world: &mut World,
+    place: usize,
+    from: HostNo,
+    outs: OutList,
+) -> Result<ReportLines, NoMemory>
+    requires within { place < length world.old.groups }
+    requires ways { (g : Group) → slice_get world.old.groups place ≡ Some g → AllByRecursion (λ out. IsOnItsWay world.old.groups (carried g.id out)) outs }
+    ensures world { (g : Group) → slice_get world.old.groups place ≡ Some g → OnOk result (world.new ≡ all_sent world.old g.id outs) }
+    ensures groups { OnOk result (world.new.groups ≡ world.old.groups) }
+    ensures lines { (g : Group) → slice_get world.old.groups place ≡ Some g → IfOk result (λ lines. lines ≡ sent_lines (length world.old.messages + 1) g.name from outs) }
+{
+    let mut lines = ReportLines::new(world.alloc());
+    if outs.as_slice().is_empty() {
+        world.count_bytes(0);
+        return Ok(lines);
+    }
+    let group = world.group(place).id();
+    let name = world.group(place).name().copy(world.alloc())?;
+    send_all(world, &mut lines, group, &name, from, outs)?;
+    Ok(lines)
 }
 
 /// Sends all of them in order, prints each, and counts their bytes.
