@@ -22,7 +22,8 @@ use std::alloc::Global;
 /// The longest line, in bytes without its end.
 const LINE_LIMIT: usize = 4096;
 
-/// Reads the line of some words. It is refused as `later` or `syntax`, for the first of these that applies.
+/// Reads the line of some words, and writes it at the place that is given. It is refused as `later` or `syntax`, for the
+/// first of these that applies; what the place then holds is not said.
 // A line is large: each form writes it where the caller wants it, so that it is never moved.
 #[inline(never)]
 pub fn read_words(alloc: Global, words: &[&[u8]], line: &mut Line) -> Result<(), LineFault>

@@ -1,3 +1,2 @@
 pub mod Worth
-pub mod Words
 pub mod Report

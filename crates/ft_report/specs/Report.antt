@@ -16,7 +16,7 @@ use Rattle.giop_messages.specs.declared.faults.Why.{Why}
 use Rattle.giop_messages.specs.declared.faults.Why.TheVariants as causes
 use Rattle.group_model.specs.declared.changes.ManageFault.{ManageFault}
 use Rattle.group_model.specs.declared.changes.ManageFault.TheVariants as refusals
-use Rattle.ft_report.specs.Words.{host_text, hosts_text, line, location_text, octets_text, phrase_text}
+use Rattle.report_words.specs.Words.{host_text, hosts_text, line, location_text, octets_text, phrase_text}
 use Rattle.ft_report.specs.declared.outcomes.Worth.{Worth}
 use Rattle.ft_report.specs.declared.outcomes.Worth.TheVariants as worths
 use Rattle.ft_report.specs.declared.outcomes.ReportOutcome.{ReportOutcome}

@@ -12,7 +12,6 @@
 //! ```
 #![tactic(auto)]
 
-mod hexadecimal;
 mod histories;
 mod outcomes;
 mod parts;
@@ -20,7 +19,6 @@ mod rendering;
 mod reports;
 mod showing;
 mod transfers;
-mod words;
 
 pub use outcomes::{ReportOutcome, Worth, worth_of};
 pub use rendering::write_line;

@@ -1,15 +1,15 @@
 //! The parts of a line: words and phrases, each as its text.
 ghost use Rattle.std.specs.Prelude.{◌≡◌, ◌++◌, ◌∷◌, [], IfOk, OnOk};
-ghost use Rattle.ft_report.specs.Words.{phrase_text};
+ghost use Rattle.report_words.specs.Words.{phrase_text};
 ghost use Rattle.ft_report.specs.Report.{completed_text, decision_text, end_text, fault_text, ignored_text, kind_text, outcome_text, own_fault, refusal_text, role_text, setting_text, standing_text, subscribe_text, why_text, with_number, with_numbers, with_version, worded_numbers, worth_text};
 
 use crate::outcomes::{ReportOutcome, Worth};
 use crate::reports::{CallEnd, Role, SettingFault, Standing, SubscribeFault};
-use crate::words::Word::{Fixed, Made, Number, Text};
-use crate::words::{octets, phrase, push_numbered, push_octets, push_phrase, push_signed};
 use ft_base::{Bytes, Decision, HostNo, Ignored, Name, NoMemory, Version};
 use giop_messages::Why;
 use group_model::ManageFault;
+use report_words::Word::{Fixed, Made, Number, Text};
+use report_words::{octets, phrase, push_numbered, push_octets, push_phrase, push_signed};
 use std::alloc::Global;
 use sys_faults::{Completed, SysFault, SysKind};
 

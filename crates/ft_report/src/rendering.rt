@@ -1,6 +1,6 @@
 ghost use Rattle.std.specs.Prelude.{◌≡◌, ◌∷◌, [], codes, decimal, ◌++◌, IfOk, OnOk};
 ghost use Rattle.std.specs.List.{flat_map};
-ghost use Rattle.ft_report.specs.Words.{line};
+ghost use Rattle.report_words.specs.Words.{line};
 ghost use Rattle.ft_report.specs.Report.{between_hosts, report_text};
 
 use crate::outcomes::ReportOutcome;
@@ -13,11 +13,11 @@ use crate::showing::{
     locations_line, member_line, member_ref_line, no_group_line, property_line, ref_line, show_line,
 };
 use crate::transfers::{checkpoint_line, updated_line};
-use crate::words::Word::{Fixed, Host, Location, Made, Number, Text};
-use crate::words::{hosts, phrase, push_line, push_named, push_numbered, push_octets};
 use ft_base::{Bytes, Decision, GroupId, HostNo, Ignored, Members, Name, NoMemory, Version};
 use giop_messages::Why;
 use group_model::ManageFault;
+use report_words::Word::{Fixed, Host, Location, Made, Number, Text};
+use report_words::{hosts, phrase, push_line, push_named, push_numbered, push_octets};
 use std::alloc::Global;
 
 // Ends a line.

@@ -4,9 +4,9 @@ ghost use Rattle.ft_report.specs.Report.{report_text};
 
 use crate::parts::{role_bytes, standing_bytes};
 use crate::reports::{ReportLine, Role, Standing};
-use crate::words::Word::{Fixed, Made, Number, Text};
-use crate::words::{hosts, push_line};
 use ft_base::{Bytes, HostNo, Members, Name, NoMemory, Tick, Version};
+use report_words::Word::{Fixed, Made, Number, Text};
+use report_words::{hosts, push_line};
 use std::alloc::Global;
 
 pub fn property_line<'a>(

@@ -3,9 +3,9 @@ ghost use Rattle.std.specs.Prelude.{◌≡◌, ◌++◌, OnOk};
 ghost use Rattle.ft_report.specs.Report.{report_text};
 
 use crate::reports::ReportLine;
-use crate::words::Word::{Fixed, Number, Text};
-use crate::words::push_line;
 use ft_base::{HostNo, Name, NoMemory, Tick};
+use report_words::Word::{Fixed, Number, Text};
+use report_words::push_line;
 
 pub fn checkpoint_line(
     text: &mut Vec<u8>,

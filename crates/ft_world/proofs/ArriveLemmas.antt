@@ -1,6 +1,6 @@
 -- A request that comes to its host.
-use Rattle.std.proofs.Common.{◌≡◌, ℕ, zero, suc, ◌+◌, ◌<◌, ◌≤◌, arith, Bool, true, false, List, [], ◌∷◌, length, Option, Some, None, refl, sym, ap, subst, ◌∙◌}
-use Rattle.std.specs.Prelude.{if◌then◌else◌, slice_get, option_map, Result, Ok, Err}
+use Rattle.std.proofs.Common.{◌≡◌, ℕ, ◌+◌, ◌≤◌, arith, Bool, true, false, List, [], Option, Some, None, refl, sym, ap, subst, ◌∙◌}
+use Rattle.std.specs.Prelude.{if◌then◌else◌, slice_get, option_map, Result}
 use Rattle.ft_base.specs.declared.memory.NoMemory.{NoMemory}
 use Rattle.ft_base.specs.declared.numbers.GroupId.{GroupId}
 use Rattle.ft_base.specs.declared.decisions.Stop.{Stop}
@@ -13,61 +13,22 @@ use Rattle.group_model.specs.Sending.{brought}
 use Rattle.script_clients.specs.Clients.{Client}
 use Rattle.script_groups.specs.Acting.{MayCome}
 use Rattle.script_groups.specs.Groups.{ScriptGroup, Placed, group_numbered, placed, turn}
+use Rattle.script_groups.specs.Lists.{same_some}
+use Rattle.script_world.specs.Made.{has_turn}
 use Rattle.script_world.specs.Sound.{IsOnItsWay, MayComeTo}
 use Rattle.script_world.specs.World.{World, carried, is_deleted, with_event}
-use Rattle.script_world.specs.Worlds.{EventAt, HasTurnAt, IsMade}
+use Rattle.script_world.specs.Worlds.{EventAt}
 use Rattle.world_turns.specs.Answers.{Does}
-use Rattle.ft_world.proofs.PlaceLemmas.{same_some}
+use Rattle.world_turns.specs.Doing.{does_behind}
 use Rattle.ft_world.specs.Delivering.{answered, asker_of, request_event, requested, turned_away}
 use Rattle.ft_world.specs.declared.deliveries.Asker.{Asker}
 use Rattle.ft_world.specs.declared.deliveries.Arrival.{Arrival}
 use Rattle.world_turns.specs.Naming.{Deleted, There, group_with_number, naming_of}
 use Rattle.world_turns.specs.Turns.{Effect, costing, says}
 
-pub get_inside : {A : Type 0} (xs : List A) (i : ℕ) (x : A) → slice_get xs i ≡ Some x → i < length xs
-get_inside [] i x at = absurd cc
-get_inside (y ∷ xs) zero x at = omega arith
-get_inside (y ∷ xs) (suc i) x at = omega (arith, get_inside xs i x at)
-
 none_mapped : {A B : Type 0} (f : A → B) (o : Option A) → option_map f o ≡ None → o ≡ None
 none_mapped f None e = refl
 none_mapped f (Some x) e = absurd cc
-
--- an answer that wants no memory
-pub is_made : {P : Type 0} (a : GroupAnswer) → (a ≡ answers.NoMemory → ⊥) → IsMade a P → P
-is_made answers.NoMemory not it = absurd (not refl)
-is_made (answers.Reply decision answer out) not it = it
-is_made (answers.Known version) not it = it
-is_made (answers.Applied n) not it = it
-is_made (answers.Held n) not it = it
-is_made (answers.Ignored cause) not it = it
-is_made (answers.Taken from position out) not it = it
-is_made (answers.Changed view out) not it = it
-is_made (answers.Refused fault) not it = it
-is_made answers.LogFault not it = it
-is_made answers.Down not it = it
-is_made answers.Up not it = it
-
-pub has_turn : (w : World) (place : ℕ) (e : Event) (a : GroupAnswer) (later : World) (before now : ℕ) → (a ≡ answers.NoMemory → ⊥) → EventAt w place e a later before now → HasTurnAt w place e a later before now
-has_turn w place e answers.NoMemory later before now not it = absurd (not refl)
-has_turn w place e (answers.Reply decision answer out) later before now not it = it
-has_turn w place e (answers.Known version) later before now not it = it
-has_turn w place e (answers.Applied n) later before now not it = it
-has_turn w place e (answers.Held n) later before now not it = it
-has_turn w place e (answers.Ignored cause) later before now not it = it
-has_turn w place e (answers.Taken from position out) later before now not it = it
-has_turn w place e (answers.Changed view out) later before now not it = it
-has_turn w place e (answers.Refused fault) later before now not it = it
-has_turn w place e answers.LogFault later before now not it = it
-has_turn w place e answers.Down later before now not it = it
-has_turn w place e answers.Up later before now not it = it
-
--- what was done behind servant calls
-pub does_behind : (calls : ℕ) (e : Effect) (result : Result (List ReportLine) NoMemory) (new : World) (before between now : ℕ) →
-    between ≡ before + calls → Does e result new between now → Does (costing calls e) result new before now
-does_behind calls e (Ok report) new before between now is done =
-    record { world = done.world; lines = done.lines; calls = omega (arith, is, done.calls) }
-does_behind calls e (Err why) new before between now is done = omega (arith, is, done)
 
 module _ (w : World) (k : ℕ) (r : Arrival) (stop : Stop) (place : ℕ) (g : ScriptGroup) where
   -- of a client that isn't there

@@ -17,30 +17,19 @@ use Rattle.script_clients.specs.Clients.{Client, taking}
 use Rattle.script_clients.specs.declared.answers.Call.{Call}
 use Rattle.script_clients.specs.declared.answers.Told.{Told}
 use Rattle.script_groups.specs.Groups.{ScriptGroup, Placed, found, placed}
+use Rattle.script_groups.specs.Lists.{get_set, same_some}
 use Rattle.script_groups.specs.References.{newest_reference}
 use Rattle.script_world.specs.World.{World, client_named, with_client}
 use Rattle.script_world.specs.Worlds.{begin}
 use Rattle.script_world.specs.declared.worlds.Begun.{Begun}
 use Rattle.world_turns.specs.Answers.{Acts, HasDone}
-use Rattle.ft_world.proofs.PlaceLemmas.{same_some}
 use Rattle.ft_world.specs.Clients.{begun, call_by, call_from, does, expiration_of, is_numbered, key_of, started}
 use Rattle.world_turns.specs.Turns.{Effect, goes, says}
 
 -- ---- lists
 
--- what stands at a place of a list
-pub some_at : {A : Type 0} (xs : List A) (i : ℕ) → i < length xs → (x : A) × (slice_get xs i ≡ Some x)
-some_at [] i h = absurd (omega arith)
-some_at (x ∷ xs) zero h = (x, refl)
-some_at (x ∷ xs) (suc i) h = some_at xs i (omega arith)
-
 pub each_get : {A : Type 0} (P : A → Type 0) (xs : List A) (i : ℕ) (x : A) → All P xs → slice_get xs i ≡ Some x → P x
 each_get P xs i x all at = subst P (get_or_from_slice_get xs i x x at) (All-get_or P xs i x (slice_get_within xs i x at) all)
-
-pub get_set : {A : Type 0} (xs : List A) (i : ℕ) (x y : A) → slice_get xs i ≡ Some y → slice_get (slice_set xs i x) i ≡ Some x
-get_set [] i x y at = absurd cc
-get_set (z ∷ xs) zero x y at = refl
-get_set (z ∷ xs) (suc i) x y at = get_set xs i x y at
 
 set_set : {A : Type 0} (xs : List A) (i : ℕ) (x y : A) → slice_set (slice_set xs i x) i y ≡ slice_set xs i y
 set_set [] i x y = refl

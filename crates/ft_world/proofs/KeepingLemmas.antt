@@ -18,7 +18,8 @@ use Rattle.world_turns.specs.Sending.{all_sent}
 use Rattle.world_turns.specs.Turns.{Effect}
 use Rattle.ft_world.specs.Laws.{AllLater, HasMore, calls_of_groups}
 use Rattle.ft_world.proofs.LaterLemmas.{AreFew, Few, all_next, all_stay, each_later, none_called, one_called, one_later}
-use Rattle.ft_world.proofs.PlaceLemmas.{IsOf, IsOneOf, all_get, all_set}
+use Rattle.ft_world.proofs.PlaceLemmas.{IsOf, IsOneOf}
+use Rattle.script_groups.specs.Lists.{all_get, all_set}
 
 -- no time goes by, and no client begins an invocation
 pub record Keeps (w new : World) (calls : ℕ) : Type 0 where

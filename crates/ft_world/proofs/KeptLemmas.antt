@@ -1,6 +1,6 @@
 -- What every line leaves of a world: each group, which may have had more events, and the servant calls of these;
 -- the clock goes on by less than 2^32, and each client begins one invocation at most.
-use Rattle.std.proofs.Common.{◌≡◌, ℕ, suc, ◌+◌, ◌<◌, ◌≤◌, ◌^◌, arith, Bool, true, false, List, [], ◌∷◌, ◌++◌, length, Option, Some, None, Result, Ok, Err, refl, sym, ap, subst, ◌∙◌}
+use Rattle.std.proofs.Common.{◌≡◌, ℕ, suc, ◌+◌, ◌<◌, ◌≤◌, ◌^◌, arith, Bool, true, false, List, [], ◌∷◌, Option, Some, None, Result, Ok, Err, refl, sym, subst, ◌∙◌}
 use Rattle.std.specs.Prelude.{◌-◌, if◌then◌else◌, slice_get}
 use Rattle.std.specs.List.{AllByRecursion}
 use Rattle.ft_base.specs.declared.decisions.Stop.{Stop}
@@ -50,7 +50,7 @@ use Rattle.script_clients.specs.declared.answers.Told.{Told}
 use Rattle.script_clients.specs.declared.answers.Told.TheVariants as tolds
 use Rattle.script_clients.specs.Clients.{Client, Turn as Turned, binding, failing, going_on, hearing, new_client, taking}
 use Rattle.script_groups.specs.Acting.{IsKept}
-use Rattle.script_groups.specs.Groups.{ScriptGroup, Placed, acted, all_acted, servant_calls, group_named, machine_of, opened, signature_of, turn}
+use Rattle.script_groups.specs.Groups.{ScriptGroup, Placed, acted, servant_calls, group_named, machine_of, opened, signature_of, turn}
 use Rattle.shipped_servants.specs.declared.kinds.Kind.{Kind}
 use Rattle.sys_faults.specs.declared.answers.Answer.TheVariants.{System as SystemAnswer}
 use Rattle.script_world.specs.declared.hosts.HostState.{HostState}
@@ -61,7 +61,8 @@ use Rattle.script_world.specs.Sound.{HasActed, IsKeptWorld}
 use Rattle.script_world.specs.World.{World, client_named, is_up, message_numbered, passed, with_client, with_event, with_fault, with_hosts, with_messages, with_one_client, with_settings, with_subscribers, without_group}
 use Rattle.script_world.specs.Worlds.{begin}
 use Rattle.ft_world.proofs.KeepingLemmas.{Keeps, Makes, as_many, behind, client_hears, group_acts, group_sends, host_starts, host_stops, if_keeps, more_sent, same, untouched}
-use Rattle.ft_world.proofs.PlaceLemmas.{IsOf, IsOneNamed, IsOneOf, all_get, all_push, all_set, called_one, found_one, got, there_one, with_number_one}
+use Rattle.ft_world.proofs.PlaceLemmas.{IsOf, IsOneNamed, IsOneOf, called_one, found_one, got, there_one, with_number_one}
+use Rattle.script_groups.specs.Lists.{all_get, all_push, all_set}
 use Rattle.ft_world.specs.Acts.{act, act_first}
 use Rattle.ft_world.specs.Clients.{attempted, begun, call_by, call_from, call_said, call_to, does, gone_for, gone_said, started, started_by}
 use Rattle.ft_world.specs.Delivering.{answered, arrives, asker_of, arrival_of, brought_to, delivered, heard_by, heard_of, replied, request_event, requested, turned_away}
@@ -76,7 +77,7 @@ use Rattle.ft_world.specs.Links.{answered_by, ask_group, asked_event, group_by, 
 use Rattle.world_management.specs.Making.{client_causes, client_line, group_causes, group_line, hosts_causes, hosts_line, kind_of, made_group, new_group, next_id, stopped_from, stopped_if, style_criteria}
 use Rattle.world_management.specs.Properties.{get_group_found, set_group_found, set_in, set_line, set_unless, unset_line}
 use Rattle.ft_world.specs.Retrying.{bind_from, bind_to, bound_by, timed_out, timeout_from}
-use Rattle.ft_world.specs.Printed.{gives_of, shown}
+use Rattle.ft_world.specs.Printed.{gives_of}
 use Rattle.world_management.specs.Reading.{member_of, reads}
 use Rattle.script_groups.specs.References.{newest_reference}
 use Rattle.script_groups.specs.Reading.{identified, located, member_referred, referred}
@@ -95,7 +96,7 @@ use Rattle.world_transfers.specs.Transfers.{checkpoint_by, checkpoint_event, che
 use Rattle.world_turns.specs.Sending.{all_sent}
 use Rattle.world_turns.specs.Naming.{Naming, NeverMade, Deleted, There, gone, group_called, group_with_number}
 use Rattle.world_turns.specs.Turns.{Effect, Turn, Goes, Refused, first_cause, goes, judged, says, total_causes, totals_of, unless}
-use Rattle.ft_world.proofs.LaterLemmas.{Few, AreFew, more_few, all_stay, all_next, one_later, each_later, one_behind, one_called, none_called, one_behind_called}
+use Rattle.ft_world.proofs.LaterLemmas.{Few, more_few, all_stay, all_next, one_behind, one_behind_called}
 
 -- T says of a line that its ticks are few.
 module _ (T : Type 0) where

@@ -8,7 +8,7 @@ use Rattle.group_model.specs.declared.events.Event.{Event}
 use Rattle.script_clients.specs.Clients.{Client}
 use Rattle.script_groups.specs.Groups.{ScriptGroup, acted, all_acted, servant_calls, with_more, turn}
 use Rattle.script_groups.specs.Laws.{CallsGoOn}
-use Rattle.ft_world.proofs.PlaceLemmas.{same_some}
+use Rattle.script_groups.specs.Lists.{same_some}
 use Rattle.ft_world.specs.Laws.{AllLater, HasMore, calls_of_groups}
 
 -- ---- clients

@@ -53,8 +53,7 @@ use Rattle.ft_world.specs.Printed.{gives_of}
 use Rattle.ft_world.specs.declared.links.Said.{Said}
 use Rattle.ft_world.specs.Serving.{AnsweredBy, AreInForm, Asks, IsAsked, IsChange, IsInForm, IsServed, IsWithin}
 use Rattle.world_turns.specs.Turns.{Effect, effect, says}
-use Rattle.ft_world.proofs.CallLemmas.{get_set}
-use Rattle.ft_world.proofs.PlaceLemmas.{same_some}
+use Rattle.script_groups.specs.Lists.{get_set, same_some}
 
 -- ---- forwards
 

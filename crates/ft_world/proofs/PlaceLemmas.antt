@@ -1,19 +1,11 @@
 -- Elements of lists by their places, and groups by what they are named.
-use Rattle.std.proofs.Common.{◌≡◌, ℕ, zero, suc, ◌+◌, arith, Bool, true, false, List, [], ◌∷◌, ◌++◌, Option, Some, None, refl, sym, ap, subst}
-use Rattle.std.specs.Prelude.{◌==◌, ◌-◌, if◌then◌else◌, option_map, slice_get, slice_set}
+use Rattle.std.proofs.Common.{◌≡◌, ℕ, zero, suc, ◌+◌, arith, Bool, true, false, List, [], ◌∷◌, Option, Some, None, refl, sym, ap, subst}
+use Rattle.std.specs.Prelude.{◌==◌, ◌-◌, if◌then◌else◌, option_map, slice_get}
 use Rattle.std.specs.List.{AllByRecursion}
 use Rattle.script_groups.specs.Groups.{ScriptGroup, Placed, found, group_named, group_numbered, placed}
+use Rattle.script_groups.specs.Lists.{same_some}
 use Rattle.script_world.specs.World.{World, is_deleted}
 use Rattle.world_turns.specs.Naming.{Naming, NeverMade, Deleted, There, group_called, group_with_number, naming_of, there_only}
-
-pub all_push : {A : Type 0} (P : A → Type 0) (xs : List A) (x : A) → AllByRecursion P xs → P x → AllByRecursion P (xs ++ x ∷ [])
-all_push P [] x all p = (p, tt)
-all_push P (y ∷ xs) x all p = (all.0, all_push P xs x all.1 p)
-
-pub all_set : {A : Type 0} (P : A → Type 0) (xs : List A) (i : ℕ) (x : A) → AllByRecursion P xs → P x → AllByRecursion P (slice_set xs i x)
-all_set P [] i x all p = tt
-all_set P (y ∷ xs) zero x all p = (p, all.1)
-all_set P (y ∷ xs) (suc i) x all p = (all.0, all_set P xs i x all.1 p)
 
 -- whatever holds of all elements holds of this one
 abbrev pub IsOf : {A : Type 0} → List A → Option A → Type 1
@@ -25,11 +17,6 @@ abbrev pub IsOneOf : {A : Type 0} → List A → Option (Placed A) → Type 0
 IsOneOf xs None = Unit {0}
 IsOneOf {A} xs (Some p) = slice_get xs p.place ≡ Some p.value
 
-pub all_get : {A : Type 0} (P : A → Type 0) (xs : List A) (i : ℕ) (x : A) → AllByRecursion P xs → slice_get xs i ≡ Some x → P x
-all_get P [] i x all at = absurd cc
-all_get P (y ∷ xs) zero x all at = subst P (let e : y ≡ x = cc in e) all.0
-all_get P (y ∷ xs) (suc i) x all at = all_get P xs i x all.1 at
-
 pub got : {A : Type 0} (xs : List A) (i : ℕ) → IsOf xs (slice_get xs i)
 got [] i = tt
 got (x ∷ xs) zero = λ P all. all.0
@@ -38,9 +25,6 @@ got {A = A} (x ∷ xs) (suc i) = further (slice_get xs i) (got xs i)
     further : (o : Option A) → IsOf xs o → IsOf (x ∷ xs) o
     further None is = tt
     further (Some y) is = λ P all. is P all.1
-
-pub same_some : {A : Type 0} (x y : A) → Some x ≡ Some y → x ≡ y
-same_some x y e = cc
 
 pub found_at : {A : Type 0} (test : A → Bool) (i : ℕ) (xs : List A) (p : Placed A) → found test i xs ≡ Some p →
     (k : ℕ) × (p.place ≡ i + k) × (slice_get xs k ≡ Some p.value)

@@ -16,9 +16,9 @@ use Rattle.script_groups.specs.Groups.{ScriptGroup, machine_of, turn}
 use Rattle.script_groups.specs.Laws.{AnswersAreInForm}
 use Rattle.script_world.specs.World.{World, host_clock}
 use Rattle.script_world.specs.Worlds.{EventAt}
-use Rattle.ft_world.proofs.ArriveLemmas.{has_turn}
+use Rattle.script_world.specs.Made.{has_turn}
 use Rattle.ft_world.proofs.LinkLemmas.{replies_in_form}
-use Rattle.ft_world.proofs.PlaceLemmas.{same_some}
+use Rattle.script_groups.specs.Lists.{same_some}
 use Rattle.ft_world.specs.Delivering.{asker_of, request_event}
 use Rattle.ft_world.specs.declared.deliveries.Asker.{Asker}
 use Rattle.ft_world.specs.declared.deliveries.Arrival.{Arrival}

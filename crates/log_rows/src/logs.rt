@@ -289,8 +289,8 @@ fn requests_are_admitted_again(rt: HostRuntime) -> Result<(), NoMemory> {
 }
 
 /// A record with this unsigned long in place of its four octets at a place.
-fn changed(alloc: Global, record: &Bytes, place: usize, word: u32) -> Result<Bytes, NoMemory> {
-    let mut bytes = Vec::from_slice(alloc, record.bytes())?;
+fn changed(alloc: Global, from: &Bytes, place: usize, word: u32) -> Result<Bytes, NoMemory> {
+    let mut bytes = Vec::from_slice(alloc, from.bytes())?;
     for (at, octet) in bytes.iter_mut().skip(place).zip(word.to_be_bytes()) {
         *at = octet;
     }

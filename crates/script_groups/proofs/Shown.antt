@@ -1,6 +1,6 @@
 -- The views that a group has had.
-use Rattle.std.proofs.Common.{◌≡◌, ℕ, zero, suc, ◌-◌, ◌<◌, ◌≤◌, arith, Bool, true, false, cond, List, [], ◌∷◌, length, Option, Some, None, refl, sym, ap, subst, ◌∙◌}
-use Rattle.std.specs.Prelude.{slice_get, slice_index_or, nat_lt, nat_le, ◌&&◌}
+use Rattle.std.proofs.Common.{◌≡◌, ℕ, ◌-◌, ◌<◌, arith, Bool, true, false, cond, List, length, Some, None, refl, sym, subst}
+use Rattle.std.specs.Prelude.{slice_index_or, nat_lt, nat_le, ◌&&◌}
 use Rattle.std.proofs.lemmas.Bool.{ltb-true, leb-true}
 use Rattle.ft_base.specs.declared.views.Style.{Style}
 use Rattle.ft_base.specs.declared.views.View.{View}
@@ -12,12 +12,8 @@ use Rattle.script_groups.specs.Laws.{IsShownView, ShownAreViews}
 use Rattle.ft_base.specs.declared.limits.TheConstants.{HOST_LIMIT}
 use Rattle.script_groups.specs.Acting.{IsSoundGroup}
 use Rattle.script_groups.specs.Groups.{ScriptGroup, common_of}
+use Rattle.script_groups.specs.Lists.{got}
 use Rattle.script_groups.proofs.Lists.{all_at}
-
-pub got : {A : Type 0} (xs : List A) (i : ℕ) (d : A) → i < length xs → slice_get xs i ≡ Some (slice_index_or xs i d)
-got [] i d h = absurd (omega arith)
-got (x ∷ xs) zero d h = refl
-got (x ∷ xs) (suc i) d h = got xs i d (omega arith)
 
 fits : (style : Style) (view : View) (k : ℕ) → IsViewAt style k view → IsShownView view
 fits style view k is = record { hosts = is.hosts; few = is.is.few; different = is.is.different }

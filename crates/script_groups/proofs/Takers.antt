@@ -15,7 +15,7 @@ use Rattle.group_model.specs.Plain.{Group, Host}
 use Rattle.group_model.specs.Views.{host_no, is_passive, newest, newest_view, no_view, view_at}
 use Rattle.script_groups.specs.Groups.{group_of, machine_of}
 use Rattle.script_groups.specs.Laws.{TakersAreInside}
-use Rattle.script_groups.proofs.Shown.{got}
+use Rattle.script_groups.specs.Lists.{got}
 
 abbrev AreInside : List ℕ → Type 0
 AreInside members = AllByRecursion (λ (m : ℕ). m < HOST_LIMIT) members

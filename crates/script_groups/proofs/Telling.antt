@@ -1,21 +1,21 @@
 -- What a core that stands for a group tells of the group's hosts.
-use Rattle.std.proofs.Common.{◌≡◌, ℕ, zero, suc, ◌<◌, ◌≤◌, arith, Bool, true, false, cond, List, [], ◌∷◌, length, Option, Some, None, refl, sym, ap, subst, ◌∙◌, Bor}
+use Rattle.std.proofs.Common.{◌≡◌, ℕ, ◌<◌, arith, Bool, true, false, cond, List, Option, Some, None, refl, sym, ap, subst, ◌∙◌, Bor}
 use Rattle.std.specs.Prelude.{slice_get, not, ◌&&◌, is_some, option_copied}
-use Rattle.ft_base.specs.Machine.{Machine}
 use Rattle.ft_base.specs.Members.{is_member}
 use Rattle.ft_base.specs.declared.limits.TheConstants.{HOST_LIMIT}
 use Rattle.ft_base.specs.declared.numbers.Version.{Version}
 use Rattle.ft_base.specs.declared.views.View.{View}
 use Rattle.ft_replica.specs.Picture.{Picture as ReplicaPicture}
 use Rattle.ft_report.specs.declared.reports.Standing.TheVariants as standings
-use Rattle.group_core.specs.Cores.{CorePicture, Stands}
+use Rattle.group_core.specs.Cores.{CorePicture}
 use Rattle.group_core.specs.Opening.{loaded_replica}
-use Rattle.group_core.specs.Telling.{CoresTell, CoreTells, HostTells}
+use Rattle.group_core.specs.Telling.{CoresTell, HostTells}
 use Rattle.group_hosts.specs.Hosts.{HostPicture}
-use Rattle.group_model.specs.Plain.{Common, Host, Group, state_at}
+use Rattle.group_model.specs.Plain.{Host, state_at}
 use Rattle.group_model.specs.Views.{version, newest_view}
-use Rattle.shipped_servants.specs.Kinds.{machine_of_kind, number_of}
+use Rattle.shipped_servants.specs.Kinds.{machine_of_kind}
 use Rattle.script_groups.specs.Groups.{ScriptGroup, common_of, group_of, machine_of}
+use Rattle.script_groups.specs.Lists.{some_at}
 use Rattle.script_groups.specs.Showing.{is_former, standing_of, standing_up}
 use Rattle.script_groups.specs.Standing.{IsStanding}
 
@@ -23,11 +23,6 @@ use Rattle.script_groups.specs.Standing.{IsStanding}
 pub view_is : (tell : CoresTell) (core : CorePicture) (g : ScriptGroup) → IsStanding core g → (version : ℕ) →
     Rattle.message_log.specs.Picture.view_at core.log version ≡ Rattle.group_core.specs.Telling.shown_view (common_of g) version
 view_is tell core g stands version = (tell machine_of_kind core (group_of g) stands.core_stands).views version
-
-some_at : {A : Type 0} (xs : List A) (i : ℕ) → i < length xs → (x : A) × (slice_get xs i ≡ Some x)
-some_at [] i h = absurd (omega arith)
-some_at (x ∷ xs) zero h = (x, refl)
-some_at (x ∷ xs) (suc i) h = some_at xs i (omega arith)
 
 module _ (tell : CoresTell) (core : CorePicture) (g : ScriptGroup) (stands : IsStanding core g) (i : ℕ) (inside : i < HOST_LIMIT) where
   abbrev its_host : Host

@@ -14,4 +14,6 @@ mod reports;
 #[cfg(test)]
 mod settings;
 #[cfg(test)]
+mod words;
+#[cfg(test)]
 mod worths;

@@ -10,7 +10,7 @@ use Rattle.script_clients.specs.Clients.{Client, Turn, going_on, binding, failin
 use Rattle.script_clients.specs.declared.answers.Call.{Call}
 use Rattle.script_clients.specs.declared.answers.Told.{Told}
 use Rattle.script_world.specs.World.{World, with_client}
-use Rattle.script_world.proofs.Places.{same_some}
+use Rattle.script_groups.specs.Lists.{same_some}
 
 -- ---- each call keeps the name
 

@@ -1,6 +1,7 @@
 -- A list of which each element is changed, one after another.
 use Rattle.std.proofs.Common.{◌≡◌, ℕ, zero, suc, ◌+◌, ◌<◌, arith, List, [], ◌∷◌, ◌++◌, length, take, drop, get_or, Some, refl, sym, ap, ◌∙◌, inl, inr}
 use Rattle.std.specs.Prelude.{map, slice_get, slice_set}
+use Rattle.std.proofs.lemmas.List.{drop_all}
 use Rattle.group_model.specs.declared.events.Event.{Event}
 use Rattle.script_groups.specs.Acting.{poisoned}
 use Rattle.script_groups.specs.Groups.{ScriptGroup, acted}
@@ -55,12 +56,6 @@ length_set (y ∷ xs) (suc i) x = ap suc (length_set xs i x)
 pub same_count : {A : Type 0} (xs : List A) (i : ℕ) (x : A) → length (slice_set xs i x) ≡ length xs
 same_count = length_set
 
-drop_all : {A : Type 0} (xs : List A) (n : ℕ) → n ≡ length xs → drop n xs ≡ []
-drop_all [] zero e = refl
-drop_all [] (suc n) e = refl
-drop_all (x ∷ xs) zero e = absurd (omega arith)
-drop_all (x ∷ xs) (suc n) e = drop_all xs n (omega arith)
-
 take_all : {A : Type 0} (xs : List A) (n : ℕ) → n ≡ length xs → take n (xs ++ []) ≡ xs
 take_all [] zero e = refl
 take_all [] (suc n) e = refl
@@ -70,7 +65,7 @@ take_all (x ∷ xs) (suc n) e = ap (λ ys. x ∷ ys) (take_all xs n (omega arith
 -- a list of the same length takes another's place
 pub written_back : {A : Type 0} (xs ys : List A) (n : ℕ) → n ≡ length xs → length ys ≡ length xs → take n (ys ++ drop (length ys) xs) ≡ ys
 written_back xs ys n count same =
-    ap (λ zs. take n (ys ++ zs)) (drop_all xs (length ys) same) ∙ take_all ys n (count ∙ sym same)
+    ap (λ zs. take n (ys ++ zs)) (drop_all (length ys) xs (omega (arith, same))) ∙ take_all ys n (count ∙ sym same)
 
 -- ---- groups, one of which was poisoned
 

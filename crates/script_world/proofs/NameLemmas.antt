@@ -9,7 +9,7 @@ use Rattle.script_groups.specs.Acting.{IsActed}
 use Rattle.script_groups.specs.Groups.{ScriptGroup, all_acted}
 use Rattle.script_world.specs.Names.{group_names}
 use Rattle.script_world.specs.Worlds.{AreOrHave, IsOrHas}
-use Rattle.script_world.proofs.Places.{same_some}
+use Rattle.script_groups.specs.Lists.{same_some}
 
 -- places stay those of the names where these are the same
 pub places_stay : (p : Places) (names later : List (List ℕ)) → ArePlaces p names → later ≡ names → ArePlaces p later

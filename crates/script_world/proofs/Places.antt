@@ -4,7 +4,9 @@ use Rattle.std.specs.Prelude.{◌==◌, ◌||◌, is_some, map, option_map, slic
 use Rattle.std.specs.List.{list_any, position_from}
 use Rattle.std.specs.Str.{bytes_eq}
 use Rattle.std.proofs.lemmas.Bool.{ne_eqb}
+use Rattle.std.proofs.lemmas.Option.{slice_get_past}
 use Rattle.script_groups.specs.Groups.{ScriptGroup, found, group_numbered, placed}
+use Rattle.script_groups.specs.Lists.{some_at}
 use Rattle.script_world.specs.Worlds.{IsPlace}
 
 -- the first place of a name among the names of what stands in a list, from a place on
@@ -44,17 +46,6 @@ pub placed_any : {A : Type 0} (test : A → Bool) (xs : List A) (place : Option 
 placed_any test xs None is = sym (ap is_some is) ∙ found_any test 0 xs
 placed_any test xs (Some i) is = sym (ap is_some is.1) ∙ found_any test 0 xs
 
--- what stands at a place of a list
-pub some_at : {A : Type 0} (xs : List A) (i : ℕ) → i < length xs → (x : A) × (slice_get xs i ≡ Some x)
-some_at [] i h = absurd (omega arith)
-some_at (x ∷ xs) zero h = (x, refl)
-some_at (x ∷ xs) (suc i) h = some_at xs i (omega arith)
-
-none_at : {A : Type 0} (xs : List A) (i : ℕ) → length xs ≤ i → slice_get xs i ≡ None
-none_at [] i h = refl
-none_at (x ∷ xs) zero h = absurd (omega arith)
-none_at (x ∷ xs) (suc i) h = none_at xs i (omega arith)
-
 -- groups by number, from 1
 pub numbered_at : (gs : List ScriptGroup) (number place : ℕ) (o : Option ScriptGroup) → number ≡ place + 1 → slice_get gs place ≡ o →
     group_numbered gs number ≡ option_map (placed place) o
@@ -70,11 +61,8 @@ numbered_here gs number place is h =
     (at.0, numbered_at gs number place (Some at.0) is at.1, at.1)
 
 pub numbered_none : (gs : List ScriptGroup) (number place : ℕ) → number ≡ place + 1 → length gs ≤ place → group_numbered gs number ≡ None
-numbered_none gs number place is h = numbered_at gs number place None is (none_at gs place h)
+numbered_none gs number place is h = numbered_at gs number place None is (slice_get_past gs place h)
 
 pub less_one : (n : ℕ) → (n ≡ 0 → ⊥) → n ≡ (n - 1) + 1
 less_one zero f = absurd (f refl)
 less_one (suc n) f = omega arith
-
-pub same_some : {A : Type 0} (x y : A) → Some x ≡ Some y → x ≡ y
-same_some x y e = cc

@@ -19,6 +19,7 @@ use Rattle.property_manager.specs.Groups.{IsSetFor, Settings, dropped, put_group
 use Rattle.script_groups.specs.Acting.{HasTurn, IsActed, IsSoundGroup, MayCome, poisoned}
 use Rattle.script_groups.specs.Groups.{ScriptGroup, Placed, acted, all_acted, group_numbered, group_of, placed}
 use Rattle.script_groups.specs.Laws.{EventsLast, GroupsStaySound, SentMayCome}
+use Rattle.script_groups.specs.Lists.{all_get, all_push, all_set, get_set}
 use Rattle.script_world.specs.declared.messages.Message.{Message}
 use Rattle.script_world.specs.declared.messages.Message.TheVariants as messages
 use Rattle.script_world.specs.Sound.{AreInOrder, IsOnItsWay, IsSound, MayComeTo}
@@ -33,28 +34,9 @@ use Rattle.shipped_servants.specs.Kinds.{type_id}
 
 -- ---- lists
 
-pub all_push : {A : Type 0} (P : A → Type 0) (xs : List A) (x : A) → AllByRecursion P xs → P x → AllByRecursion P (xs ++ x ∷ [])
-all_push P [] x all p = (p, tt)
-all_push P (y ∷ xs) x all p = (all.0, all_push P xs x all.1 p)
-
-pub all_set : {A : Type 0} (P : A → Type 0) (xs : List A) (i : ℕ) (x : A) → AllByRecursion P xs → P x → AllByRecursion P (slice_set xs i x)
-all_set P [] i x all p = tt
-all_set P (y ∷ xs) zero x all p = (p, all.1)
-all_set P (y ∷ xs) (suc i) x all p = (all.0, all_set P xs i x all.1 p)
-
-pub all_get : {A : Type 0} (P : A → Type 0) (xs : List A) (i : ℕ) (x : A) → AllByRecursion P xs → slice_get xs i ≡ Some x → P x
-all_get P [] i x all at = absurd cc
-all_get P (y ∷ xs) zero x all at = subst P (let e : y ≡ x = cc in e) all.0
-all_get P (y ∷ xs) (suc i) x all at = all_get P xs i x all.1 at
-
 all_mapped : {A : Type 0} (P Q : A → Type 0) (xs : List A) → ((x : A) → P x → Q x) → AllByRecursion P xs → AllByRecursion Q xs
 all_mapped P Q [] step all = tt
 all_mapped P Q (x ∷ xs) step all = (step x all.0, all_mapped P Q xs step all.1)
-
-pub get_set : {A : Type 0} (xs : List A) (i : ℕ) (x y : A) → slice_get xs i ≡ Some y → slice_get (slice_set xs i x) i ≡ Some x
-get_set [] i x y at = absurd cc
-get_set (z ∷ xs) zero x y at = refl
-get_set (z ∷ xs) (suc i) x y at = get_set xs i x y at
 
 -- ---- a group that comes of another
 

@@ -20,6 +20,7 @@ impl<T: Drop> Model for Apart<T> {
 }
 
 impl<T: Drop> Apart<T> {
+    /// Moves a value into memory of its own.
     pub fn of(alloc: Global, value: T) -> Result<Apart<T>, NoMemory>
         ensures { IfOk result (λ apart. apart ≡ value) }
     {

@@ -1,5 +1,5 @@
 -- Criteria, and what a factory says of them.
-use Rattle.std.proofs.Common.{◌≡◌, ℕ, zero, suc, ◌+◌, ◌<◌, arith, Bool, true, false, cond, List, [], ◌∷◌, ◌++◌, length, take, Option, Some, None, refl, sym, ap, ◌∙◌, ◌≤◌, append-nil}
+use Rattle.std.proofs.Common.{◌≡◌, ℕ, zero, suc, ◌+◌, arith, Bool, true, false, cond, List, [], ◌∷◌, ◌++◌, length, take, Option, Some, None, refl, sym, ap, ◌∙◌, ◌≤◌, append-nil}
 use Rattle.std.specs.Prelude.{if◌then◌else◌, not, slice_get}
 use Rattle.std.specs.List.{filter}
 use Rattle.ft_base.specs.declared.views.Style.{Style}
@@ -92,12 +92,6 @@ counted_next {A = A} p xs i x b before after at is so more =
     counted : (c : Bool) (n : ℕ) → (if c then n + 1 else n) ≡ n + length (cond c (x ∷ []) [])
     counted true n = omega arith
     counted false n = omega arith
-
--- what stands at a place of a list
-pub some_at : {A : Type 0} (xs : List A) (i : ℕ) → i < length xs → (x : A) × (slice_get xs i ≡ Some x)
-some_at [] i h = absurd (omega arith)
-some_at (x ∷ xs) zero h = (x, refl)
-some_at (x ∷ xs) (suc i) h = some_at xs i (omega arith)
 
 pub few_so_far : {A : Type 0} (p : A → Bool) (xs : List A) (i n : ℕ) → n ≡ length (filter p (take i xs)) → n ≤ i
 few_so_far p xs i n is = omega (arith, is, few_pass p xs i)

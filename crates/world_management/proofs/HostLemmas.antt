@@ -8,6 +8,7 @@ use Rattle.ft_report.specs.declared.reports.ReportLine.{ReportLine}
 use Rattle.group_model.specs.declared.changes.Change.{Change}
 use Rattle.group_model.specs.Views.{host_no}
 use Rattle.script_groups.specs.Groups.{ScriptGroup, placed}
+use Rattle.script_groups.specs.Lists.{same_some}
 use Rattle.script_groups.specs.Reading.{member_referred}
 use Rattle.script_world.specs.World.{World, is_there}
 use Rattle.world_management.specs.Creating.{creation, grow_to}
@@ -17,9 +18,6 @@ use Rattle.world_turns.specs.Answers.{HasDone, calls_of}
 use Rattle.world_turns.specs.Doing.{acts_by}
 use Rattle.world_turns.specs.Naming.{There}
 use Rattle.world_turns.specs.Turns.{Effect, Goes, cause, first_cause, goes, says, unless}
-
-same_group : (f g : ScriptGroup) → Some f ≡ Some g → f ≡ g
-same_group f g e = cc
 
 module _ (w : World) (number : ℕ) (host : HostNo) (there : is_there w number ≡ true) (is : host.0 ≡ number) where
   on_there : (e : HostNo → Effect) → on_host w number (e (host_no number)) ≡ goes (e host)
@@ -50,7 +48,7 @@ module _ (w : World) (number : ℕ) (host : HostNo) (there : is_there w number �
       (member_of w (There (placed place g)) number ≡ Goes w report (calls_of (member_of w (There (placed place g)) number)))
       × (calls ≡ calls + calls_of (member_of w (There (placed place g)) number))
   member_goes place g at line report calls found stands told printed =
-      let same : at ≡ g = same_group at g (sym stands ∙ found) in
+      let same : at ≡ g = same_some at g (sym stands ∙ found) in
       acts_by (member_of w (There (placed place g)) number) (says w (member_referred g host ∷ [])) report w calls calls
       (on_there (λ h. says w (member_referred g h ∷ []))) (record {
         world = refl;

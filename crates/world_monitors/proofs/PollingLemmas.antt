@@ -2,12 +2,14 @@
 use Rattle.std.proofs.Common.{◌≡◌, ℕ, zero, suc, ◌+◌, ◌<◌, ◌≤◌, arith, List, [], ◌∷◌, ◌++◌, length, take, Option, refl, sym, ap, ◌∙◌}
 use Rattle.std.specs.Prelude.{map, slice_index_or}
 use Rattle.std.specs.List.{range_with_len}
+use Rattle.std.proofs.lemmas.List.{length-append}
 use Rattle.fault_monitor.specs.Watching.{asked}
 use Rattle.ft_base.specs.declared.numbers.GroupId.{GroupId}
 use Rattle.ft_report.specs.declared.reports.ReportLine.{ReportLine}
 use Rattle.ft_report.specs.declared.reports.ReportLine.TheVariants as reports
 use Rattle.group_model.specs.Views.{host_no}
 use Rattle.property_manager.specs.declared.numbers.IntervalAndTimeout.{IntervalAndTimeout}
+use Rattle.script_groups.specs.Lists.{range_more}
 use Rattle.script_monitor.specs.Watches.{Watches, told}
 use Rattle.script_world.specs.World.{World, with_messages, with_watch}
 use Rattle.script_world.specs.declared.messages.Message.{Message}
@@ -17,10 +19,6 @@ use Rattle.world_turns.specs.Answers.{HasDone}
 
 -- ---- lists
 
-range_more : (a n j : ℕ) → a + n ≡ j → range_with_len a (suc n) ≡ range_with_len a n ++ j ∷ []
-range_more a zero j e = ap (λ (k : ℕ). k ∷ []) (let same : a ≡ j = omega arith in same)
-range_more a (suc n) j e = ap (λ (ks : List ℕ). a ∷ ks) (range_more (a + 1) n j (omega arith))
-
 join : {A : Type 0} (xs ys zs : List A) → (xs ++ ys) ++ zs ≡ xs ++ (ys ++ zs)
 join [] ys zs = refl
 join (x ∷ xs) ys zs = ap (λ rest. x ∷ rest) (join xs ys zs)
@@ -28,10 +26,6 @@ join (x ∷ xs) ys zs = ap (λ rest. x ∷ rest) (join xs ys zs)
 map_append : {A B : Type 0} (f : A → B) (xs ys : List A) → map f (xs ++ ys) ≡ map f xs ++ map f ys
 map_append f [] ys = refl
 map_append {B = B} f (x ∷ xs) ys = ap (λ (bs : List B). f x ∷ bs) (map_append f xs ys)
-
-length_append : {A : Type 0} (xs ys : List A) → length (xs ++ ys) ≡ length xs + length ys
-length_append [] ys = (let same : length ys ≡ 0 + length ys = omega arith in same)
-length_append (x ∷ xs) ys = omega (arith, length_append xs ys)
 
 length_mapped : {A B : Type 0} (f : A → B) (xs : List A) → length (map f xs) ≡ length xs
 length_mapped f [] = refl
@@ -123,7 +117,7 @@ module _ (group : GroupId) (name : List ℕ) (w : World) where
         ∙ sym (lines_last (length w.messages + 1) hosts host)
       where
         number : length now.messages + 1 ≡ (length w.messages + 1) + length hosts
-        number = omega (arith, ap (λ (v : World). length v.messages) now_is, length_append w.messages (pings group hosts), length_mapped (ping group) hosts)
+        number = omega (arith, ap (λ (v : World). length v.messages) now_is, length-append w.messages (pings group hosts), length_mapped (ping group) hosts)
 
 -- all were asked
 pub all_done : (group : GroupId) (name : List ℕ) (w now : World) (hosts done : List ℕ) (report : List ReportLine) (calls : ℕ) → done ≡ hosts →

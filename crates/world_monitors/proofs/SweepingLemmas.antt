@@ -8,12 +8,13 @@ use Rattle.group_model.specs.Views.{newest, newest_view, no_view}
 use Rattle.property_manager.specs.declared.numbers.IntervalAndTimeout.{IntervalAndTimeout}
 use Rattle.script_groups.specs.Acting.{IsSoundGroup}
 use Rattle.script_groups.specs.Groups.{ScriptGroup, Placed, common_of, placed}
+use Rattle.script_groups.specs.Lists.{got}
 use Rattle.script_world.specs.World.{World}
 use Rattle.world_monitors.specs.Staying.{reports_stay}
 use Rattle.world_monitors.specs.Monitoring.{is_overdue_in, members_of, monitored, overdue, overdue_by}
 use Rattle.world_monitors.specs.Sweeping.{reported, reports_all, reports_one}
 use Rattle.world_turns.specs.Answers.{HasDone}
-use Rattle.world_turns.specs.Turns.{Effect, costing, says, saying}
+use Rattle.world_turns.specs.Turns.{Effect, costing, saying}
 
 join : {A : Type 0} (xs ys zs : List A) → (xs ++ ys) ++ zs ≡ xs ++ (ys ++ zs)
 join [] ys zs = refl
@@ -25,16 +26,6 @@ none_more (x ∷ xs) = ap (λ rest. x ∷ rest) (none_more xs)
 
 -- ---- elements by their places
 
-pub some_at : {A : Type 0} (xs : List A) (i : ℕ) → i < length xs → (x : A) × (slice_get xs i ≡ Some x)
-some_at [] i inside = absurd (omega (arith, inside))
-some_at (x ∷ xs) zero inside = (x, refl)
-some_at (x ∷ xs) (suc i) inside = some_at xs i (omega (arith, inside))
-
-pub get_inside : {A : Type 0} (xs : List A) (i : ℕ) (x : A) → slice_get xs i ≡ Some x → i < length xs
-get_inside [] i x at = absurd cc
-get_inside (y ∷ xs) zero x at = omega arith
-get_inside (y ∷ xs) (suc i) x at = omega (arith, get_inside xs i x at)
-
 drop_one_more : (xs : List ℕ) (i : ℕ) → i < length xs → drop i xs ≡ slice_index_or xs i 0 ∷ drop (suc i) xs
 drop_one_more [] i inside = absurd (omega (arith, inside))
 drop_one_more (x ∷ xs) zero inside = refl
@@ -43,12 +34,6 @@ drop_one_more (x ∷ xs) (suc i) inside = drop_one_more xs i (omega (arith, insi
 pub drop_next : (xs : List ℕ) (i : ℕ) → i < length xs → drop i xs ≡ slice_index_or xs i 0 ∷ drop (i + 1) xs
 drop_next xs i inside =
     drop_one_more xs i inside ∙ ap (λ (k : ℕ). slice_index_or xs i 0 ∷ drop k xs) (let same : suc i ≡ i + 1 = omega arith in same)
-
-pub drop_all : (xs : List ℕ) (i : ℕ) → length xs ≤ i → drop i xs ≡ []
-drop_all [] zero past = refl
-drop_all [] (suc i) past = refl
-drop_all (x ∷ xs) zero past = absurd (omega (arith, past))
-drop_all (x ∷ xs) (suc i) past = drop_all xs i (omega (arith, past))
 
 -- ---- reports
 
@@ -109,11 +94,6 @@ ends w p hosts now report before steps s = record {
 }
 
 -- ---- members of a view are hosts that there can be
-
-got : {A : Type 0} (xs : List A) (i : ℕ) (d : A) → i < length xs → slice_get xs i ≡ Some (slice_index_or xs i d)
-got [] i d inside = absurd (omega (arith, inside))
-got (x ∷ xs) zero d inside = refl
-got (x ∷ xs) (suc i) d inside = got xs i d (omega (arith, inside))
 
 all_filtered : (P : ℕ → Type 0) (p : ℕ → Bool) (xs : List ℕ) → AllByRecursion P xs → AllByRecursion P (filter p xs)
 all_filtered P p [] all = tt

@@ -1,6 +1,6 @@
 -- What a report leaves of the group: a law.
-use Rattle.std.proofs.Common.{◌≡◌, ℕ, zero, suc, List, [], ◌∷◌, Some, refl, ap, ◌∙◌}
-use Rattle.std.specs.Prelude.{slice_get, slice_set}
+use Rattle.std.proofs.Common.{◌≡◌, ℕ, List, Some, refl, ap, ◌∙◌}
+use Rattle.std.specs.Prelude.{slice_get}
 use Rattle.ft_base.specs.declared.numbers.GroupId.{GroupId}
 use Rattle.ft_base.specs.declared.numbers.HostNo.{HostNo}
 use Rattle.group_model.specs.declared.changes.Change.{Change}
@@ -10,16 +10,12 @@ use Rattle.group_model.specs.declared.events.GroupAnswer.{GroupAnswer}
 use Rattle.group_model.specs.declared.events.GroupAnswer.TheVariants as answers
 use Rattle.group_model.specs.Views.{host_no}
 use Rattle.script_groups.specs.Groups.{ScriptGroup, Placed, acted, turn}
+use Rattle.script_groups.specs.Lists.{get_set}
 use Rattle.script_world.specs.World.{World, with_event}
 use Rattle.shipped_servants.specs.declared.kinds.Kind.{Kind}
 use Rattle.world_management.specs.Hosts.{changed, with_reported}
 use Rattle.world_turns.specs.Sending.{all_sent}
 use Rattle.world_monitors.specs.Sweeping.{reported, reports_one}
-
-get_set : {A : Type 0} (xs : List A) (i : ℕ) (x y : A) → slice_get xs i ≡ Some y → slice_get (slice_set xs i x) i ≡ Some x
-get_set [] i x y at = absurd cc
-get_set (z ∷ xs) zero x y at = refl
-get_set (z ∷ xs) (suc i) x y at = get_set xs i x y at
 
 -- what a change leaves of the groups
 reported_groups : (w : World) (kind : Kind) (group : GroupId) (change : Change) → (with_reported w kind group change).groups ≡ w.groups

@@ -2,6 +2,7 @@
 use Rattle.std.proofs.Common.{◌≡◌, ◌==◌, ℕ, suc, ◌+◌, arith, true, List, [], ◌∷◌, ◌++◌, length, refl, sym, ap, subst, ◌∙◌}
 use Rattle.std.specs.Prelude.{map}
 use Rattle.std.proofs.lemmas.Bool.Decides.{nat_tests}
+use Rattle.std.proofs.lemmas.List.{length-append}
 use Rattle.ft_base.specs.declared.numbers.GroupId.{GroupId}
 use Rattle.ft_base.specs.declared.numbers.HostNo.{HostNo}
 use Rattle.ft_report.specs.declared.reports.ReportLine.{ReportLine}
@@ -18,10 +19,6 @@ join (x ∷ xs) ys zs = ap (λ rest. x ∷ rest) (join xs ys zs)
 map_append : {A B : Type 0} (f : A → B) (xs ys : List A) → map f (xs ++ ys) ≡ map f xs ++ map f ys
 map_append f [] ys = refl
 map_append {B = B} f (x ∷ xs) ys = ap (λ (bs : List B). f x ∷ bs) (map_append f xs ys)
-
-length_append : {A : Type 0} (xs ys : List A) → length (xs ++ ys) ≡ length xs + length ys
-length_append [] ys = (let same : length ys ≡ 0 + length ys = omega arith in same)
-length_append (x ∷ xs) ys = omega (arith, length_append xs ys)
 
 length_mapped : {A B : Type 0} (f : A → B) (xs : List A) → length (map f xs) ≡ length xs
 length_mapped f [] = refl
@@ -49,7 +46,7 @@ module _ (w now next : World) (group : GroupId) (done : List Out) (e : Out) (now
   still_comes comes = subst (λ (v : World). IsOnItsWay v.groups (carried group e)) (sym now_is) comes
 
   number_is : length now.messages + 1 ≡ (length w.messages + 1) + length done
-  number_is = omega (arith, ap (λ (v : World). length v.messages) now_is, length_append w.messages (all_carried group done), length_mapped (carried group) done)
+  number_is = omega (arith, ap (λ (v : World). length v.messages) now_is, length-append w.messages (all_carried group done), length_mapped (carried group) done)
 
   lines_last : (n : ℕ) (name : List ℕ) (from : HostNo) (outs : List Out) → sent_lines n name from (outs ++ e ∷ []) ≡ sent_lines n name from outs ++ sent_line (n + length outs) name from e.to e.carried ∷ []
   unfolding sent_lines

@@ -1,6 +1,6 @@
 use Rattle.std.proofs.Common.{◌≡◌, ℕ, List, [], ◌∷◌, ◌++◌, codes, decimal, subst}
 use Rattle.std.specs.Prelude.{OnOk}
-use Rattle.ft_report.specs.Words.{line}
+use Rattle.report_words.specs.Words.{line}
 use Rattle.ft_report.proofs.rendering.view_message_line.Goals as goal
 
 -- what is told ends in the words of the view

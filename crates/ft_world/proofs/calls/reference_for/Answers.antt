@@ -2,8 +2,7 @@ use Rattle.std.proofs.Common.{◌<◌, length, sym, subst, Some, ◌≡◌}
 use Rattle.std.specs.Prelude.{slice_get}
 use Rattle.script_groups.specs.Acting.{IsKept}
 use Rattle.script_world.specs.World.{World}
-use Rattle.ft_world.proofs.CallLemmas.{some_at}
-use Rattle.ft_world.proofs.PlaceLemmas.{all_get}
+use Rattle.script_groups.specs.Lists.{all_get, some_at}
 use Rattle.ft_world.proofs.calls.reference_for.Goals as goal
 
 pub group-requires-in-None : goal.group-requires-in-None

@@ -4,8 +4,8 @@ use Rattle.script_world.specs.Worlds.{CanStart}
 use Rattle.world_turns.specs.Answers.{Does}
 use Rattle.ft_world.specs.Clients.{key_of}
 use Rattle.world_turns.specs.Turns.{Effect}
-use Rattle.ft_world.proofs.CallLemmas.{begun_is, client_there, client_within, made, some_at, started_is}
-use Rattle.ft_world.proofs.PlaceLemmas.{same_some}
+use Rattle.ft_world.proofs.CallLemmas.{begun_is, client_there, client_within, made, started_is}
+use Rattle.script_groups.specs.Lists.{same_some, some_at}
 use Rattle.ft_world.proofs.calls.start.Goals as goal
 
 pub start_at-requires-clause-within : goal.start_at-requires-clause-within

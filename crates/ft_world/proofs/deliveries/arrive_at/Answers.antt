@@ -6,12 +6,12 @@ use Rattle.group_model.specs.declared.events.Event.TheVariants as events
 use Rattle.group_model.specs.Sending.{sent_by}
 use Rattle.script_groups.specs.Acting.{IsSoundGroup}
 use Rattle.script_world.specs.Sound.{IsOnItsWay}
-use Rattle.script_world.specs.World.{carried, host_clock}
+use Rattle.script_world.specs.World.{carried}
 use Rattle.world_turns.specs.Answers.{HasDone}
 use Rattle.world_turns.specs.Turns.{Effect}
-use Rattle.ft_world.proofs.ArriveLemmas.{asker_is, is_made, nobody_asks, request_done, short_request}
-use Rattle.ft_world.proofs.CallLemmas.{some_at}
-use Rattle.ft_world.proofs.PlaceLemmas.{same_some}
+use Rattle.ft_world.proofs.ArriveLemmas.{asker_is, nobody_asks, request_done, short_request}
+use Rattle.script_groups.specs.Lists.{same_some, some_at}
+use Rattle.script_world.specs.Made.{is_made}
 use Rattle.ft_world.proofs.ReplyLemmas.{reply_in_form}
 use Rattle.ft_world.proofs.deliveries.arrive_at.Goals as goal
 

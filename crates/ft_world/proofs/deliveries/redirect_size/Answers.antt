@@ -8,7 +8,7 @@ use Rattle.script_groups.specs.References.{ior_at}
 use Rattle.sys_faults.specs.declared.faults.SysFault.{SysFault}
 use Rattle.ft_world.specs.Links.{forward_by}
 use Rattle.ft_world.proofs.LinkLemmas.{can_be_sent}
-use Rattle.ft_world.proofs.PlaceLemmas.{same_some}
+use Rattle.script_groups.specs.Lists.{same_some}
 use Rattle.ft_world.proofs.ReplyLemmas.{no_view_size}
 use Rattle.ft_world.proofs.deliveries.redirect_size.Goals as goal
 

@@ -6,9 +6,9 @@ use Rattle.script_groups.specs.Acting.{IsSoundGroup}
 use Rattle.script_groups.specs.Groups.{ScriptGroup, acted}
 use Rattle.script_world.specs.Sound.{IsOnItsWay}
 use Rattle.script_world.specs.World.{carried}
-use Rattle.ft_world.proofs.ArriveLemmas.{get_inside, has_turn, is_made}
-use Rattle.ft_world.proofs.CallLemmas.{some_at}
-use Rattle.ft_world.proofs.PlaceLemmas.{same_some}
+use Rattle.script_groups.specs.Lists.{same_some, some_at}
+use Rattle.script_world.specs.Made.{has_turn, is_made}
+use Rattle.std.proofs.lemmas.Option.{slice_get_within}
 use Rattle.ft_world.proofs.LinkLemmas.{asks_at, event_of, had_turn, replies_in_form, short_at, stands_later}
 use Rattle.ft_world.proofs.links.ask_at.Goals as goal
 
@@ -25,7 +25,7 @@ answered-requires l c =
     let later = stands_later w c.event_at.new.self c.args.place at.0 c.args.host clock c.args.asked c.args.steps.now c.event_at.new.steps at.1 c.host_clock.ensures c.event_at.result it in
     let had = had_turn w c.event_at.new.self c.args.place at.0 c.args.host clock c.args.asked c.args.steps.now c.event_at.new.steps at.1 c.host_clock.ensures c.event_at.result it in
     record {
-      within = get_inside c.event_at.new.self.groups c.args.place (acted at.0 event) later;
+      within = slice_get_within c.event_at.new.self.groups c.args.place (acted at.0 event) later;
       kept = is_made c.event_at.result c.in_default.not-NoMemory c.event_at.ensures.kept;
       form = replies_in_form c.answers_are_in_form.ensures at.0 c.args.host clock c.args.asked Never c.gives_asked-gives.result c.event_at.result
           (c.gives_asked-gives.ensures at.0 at.1) (subst IsSoundGroup (same_some c.group.result.now at.0 (sym c.group.ensures ∙ at.1)) c.is_sound.ensures) (record { host = c.requires.host; brought = c.requires.short }) had.1.0;

@@ -2,7 +2,7 @@ use Rattle.std.proofs.Common.{ℕ, List, [], ◌∷◌, ap, sym, ◌∙◌}
 use Rattle.ft_report.specs.declared.reports.ReportLine.TheVariants as reports
 use Rattle.script_clients.specs.Clients.{Client}
 use Rattle.ft_world.proofs.CallLemmas.{none_of}
-use Rattle.ft_world.proofs.PlaceLemmas.{same_some}
+use Rattle.script_groups.specs.Lists.{same_some}
 use Rattle.ft_world.proofs.RetryingLemmas.{bound_goes, busy_goes}
 use Rattle.ft_world.proofs.retrying.bind_there.Goals as goal
 

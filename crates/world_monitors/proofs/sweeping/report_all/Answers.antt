@@ -1,7 +1,10 @@
 use Rattle.std.proofs.Common.{ℕ, ◌+◌, List, arith, drop, subst}
 use Rattle.std.specs.Prelude.{slice_index_or}
 use Rattle.script_groups.specs.Groups.{placed}
-use Rattle.world_monitors.proofs.SweepingLemmas.{IsSwept, begins, drop_all, drop_next, ends, ends_short, get_inside, goes_on, some_at}
+use Rattle.world_monitors.proofs.SweepingLemmas.{IsSwept, begins, drop_next, ends, ends_short, goes_on}
+use Rattle.script_groups.specs.Lists.{some_at}
+use Rattle.std.proofs.lemmas.List.{drop_all}
+use Rattle.std.proofs.lemmas.Option.{slice_get_within}
 use Rattle.world_monitors.proofs.sweeping.report_all.Goals as goal
 
 pub loop-host-init : goal.loop-host-init
@@ -16,7 +19,7 @@ pub push_change-requires-clause-within : goal.push_change-requires-clause-within
 push_change-requires-clause-within g c =
     let at = some_at c.args.world.now.groups c.args.place c.requires.within in
     let s = c.loop-host.invariant.swept at.0 at.1 in
-    get_inside c.loop-host.world.groups c.args.place s.group s.there
+    slice_get_within c.loop-host.world.groups c.args.place s.group s.there
 
 pub returns-in-Err : goal.returns-in-Err
 returns-in-Err g c = λ s there.
@@ -47,4 +50,4 @@ returns g c = λ s there.
     let p = placed c.args.place s in
     ends c.args.world.now p hosts c.loop-host.world c.loop-host.report c.args.steps.now c.loop-host.steps
     (subst (λ (rest : List ℕ). IsSwept c.args.world.now p hosts rest c.loop-host.world c.loop-host.report c.args.steps.now c.loop-host.steps)
-    (drop_all hosts c.loop-host.host-index (omega (arith, c.loop-host-test.false))) (c.loop-host.invariant.swept s there))
+    (drop_all c.loop-host.host-index hosts (omega (arith, c.loop-host-test.false))) (c.loop-host.invariant.swept s there))

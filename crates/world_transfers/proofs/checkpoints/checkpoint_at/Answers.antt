@@ -1,13 +1,15 @@
-use Rattle.std.proofs.Common.{ℕ, ap, refl, sym, subst, ◌∙◌}
+use Rattle.std.proofs.Common.{ℕ, ap, sym, subst, ◌∙◌}
 use Rattle.std.specs.List.{AllByRecursion}
-use Rattle.ft_base.specs.declared.numbers.Tick.{Tick}
 use Rattle.group_model.specs.Sending.{sent_by}
 use Rattle.group_model.specs.declared.events.Event.TheVariants as events
 use Rattle.script_groups.specs.Groups.{ScriptGroup, acted}
 use Rattle.script_world.specs.Sound.{IsOnItsWay}
 use Rattle.script_world.specs.World.{carried}
 use Rattle.world_transfers.specs.Transfers.{checkpoint_event, checkpointed}
-use Rattle.world_transfers.proofs.TransferLemmas.{done_behind, get_inside, has_turn, is_made, same_group, short_behind, some_at, stands}
+use Rattle.world_transfers.proofs.TransferLemmas.{done_behind, short_behind, stands}
+use Rattle.script_groups.specs.Lists.{same_some, some_at}
+use Rattle.script_world.specs.Made.{has_turn, is_made}
+use Rattle.std.proofs.lemmas.Option.{slice_get_within}
 use Rattle.world_transfers.proofs.checkpoints.checkpoint_at.Goals as goal
 
 pub checkpointed-requires : goal.checkpointed-requires
@@ -18,10 +20,10 @@ checkpointed-requires l c =
     let it = has_turn w c.args.place event c.event_at.result c.event_at.new.self c.args.steps.now c.event_at.new.steps c.in_default.not-NoMemory c.event_at.ensures.turn in
     let later = stands w c.args.place at.0 at.1 event (checkpoint_event c.args.world.now c.args.host) (ap (λ (n : ℕ). events.Checkpoint c.args.host (record { 0 = n })) c.host_clock.ensures) c.event_at.result c.event_at.new.self c.args.steps.now c.event_at.new.steps it in
     record {
-      within = get_inside c.event_at.new.self.groups c.args.place (acted at.0 (checkpoint_event c.args.world.now c.args.host)) later;
+      within = slice_get_within c.event_at.new.self.groups c.args.place (acted at.0 (checkpoint_event c.args.world.now c.args.host)) later;
       kept = is_made c.event_at.result c.in_default.not-NoMemory c.event_at.ensures.kept;
       sent = λ g there.
-          subst (λ (x : ScriptGroup). AllByRecursion (λ o. IsOnItsWay c.event_at.new.self.groups (carried x.id o)) (sent_by c.event_at.result)) (same_group (acted at.0 (checkpoint_event c.args.world.now c.args.host)) g (sym later ∙ there))
+          subst (λ (x : ScriptGroup). AllByRecursion (λ o. IsOnItsWay c.event_at.new.self.groups (carried x.id o)) (sent_by c.event_at.result)) (same_some (acted at.0 (checkpoint_event c.args.world.now c.args.host)) g (sym later ∙ there))
           (c.event_at.ensures.sent at.0 at.1);
     }
 

@@ -4,7 +4,7 @@ use Rattle.std.specs.Prelude.{slice_get}
 use Rattle.script_groups.specs.Groups.{ScriptGroup, common_of}
 use Rattle.script_world.specs.Counting.{GroupList}
 use Rattle.script_world.proofs.CountLemmas.{entries_least, entries_within}
-use Rattle.script_world.proofs.Places.{same_some}
+use Rattle.script_groups.specs.Lists.{same_some}
 use Rattle.script_world.proofs.groups.Groups.others.Goals as goal
 
 pub returns-clause-sum : goal.returns-clause-sum

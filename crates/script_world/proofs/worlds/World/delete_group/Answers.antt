@@ -4,7 +4,7 @@ use Rattle.property_manager.specs.Groups.{Settings, dropped, group_of}
 use Rattle.script_world.specs.Sound.{IsSound}
 use Rattle.script_world.specs.Standing.{world_of}
 use Rattle.script_world.specs.World.{with_settings}
-use Rattle.script_world.proofs.Places.{same_some}
+use Rattle.script_groups.specs.Lists.{same_some}
 use Rattle.script_world.proofs.SettingsLemmas.{gone}
 use Rattle.script_world.proofs.SoundLemmas.{sound_dropped}
 use Rattle.script_world.proofs.worlds.World.delete_group.Goals as goal

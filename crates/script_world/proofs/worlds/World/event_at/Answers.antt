@@ -8,7 +8,7 @@ use Rattle.script_world.specs.Sound.{IsOnItsWay, IsSound}
 use Rattle.script_world.specs.Standing.{world_of}
 use Rattle.script_world.specs.World.{World, carried}
 use Rattle.script_world.specs.Worlds.{EventAt}
-use Rattle.script_world.proofs.Places.{same_some}
+use Rattle.script_groups.specs.Lists.{same_some}
 use Rattle.script_world.proofs.SoundLemmas.{event_sent, event_sound, event_turn}
 use Rattle.script_world.proofs.worlds.World.event_at.Goals as goal
 

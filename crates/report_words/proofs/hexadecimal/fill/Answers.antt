@@ -1,7 +1,7 @@
 use Rattle.std.proofs.Common.{arith}
 use Rattle.hex.specs.Hex.{lower_digits}
 use Rattle.hex.proofs.Pairs.{encode_step, encode_done}
-use Rattle.ft_report.proofs.hexadecimal.fill.Goals as goal
+use Rattle.report_words.proofs.hexadecimal.fill.Goals as goal
 
 pub octets-preserved : goal.octets-preserved
 octets-preserved c =

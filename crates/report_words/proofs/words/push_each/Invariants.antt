@@ -1,7 +1,7 @@
 use Rattle.std.proofs.Common.{◌≡◌, ◌++◌, ◌∷◌, take}
 use Rattle.std.specs.List.{flat_map}
-use Rattle.ft_report.specs.Words.{word_text}
-use Rattle.ft_report.proofs.words.push_each.Given as goal
+use Rattle.report_words.specs.Words.{word_text}
+use Rattle.report_words.proofs.words.push_each.Given as goal
 
 -- the words so far
 abbrev pub invariant-loop-word : goal.invariant-loop-word

@@ -1,6 +1,6 @@
 use Rattle.std.proofs.Common.{◌≡◌, map, decimal, take}
-use Rattle.ft_report.specs.Words.{word_text}
-use Rattle.ft_report.proofs.words.host_words.Given as goal
+use Rattle.report_words.specs.Words.{word_text}
+use Rattle.report_words.proofs.words.host_words.Given as goal
 
 -- the numbers so far
 abbrev pub invariant-loop-host : goal.invariant-loop-host

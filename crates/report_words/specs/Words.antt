@@ -3,8 +3,8 @@ use Rattle.std.specs.Prelude.{ℕ, ◌==◌, if◌then◌else◌, List, [], ◌�
 use Rattle.std.specs.List.{flat_map}
 use Rattle.hex.specs.Hex.{encode_lower}
 use Rattle.ft_base.specs.declared.numbers.HostNo.{HostNo}
-use Rattle.ft_report.specs.declared.words.Word.{Word}
-use Rattle.ft_report.specs.declared.words.Word.TheVariants.{Fixed, Text, Made, Number, Host, Location}
+use Rattle.report_words.specs.declared.words.Word.{Word}
+use Rattle.report_words.specs.declared.words.Word.TheVariants.{Fixed, Text, Made, Number, Host, Location}
 
 -- texts, with a byte between each two
 abbrev pub joined_text : ℕ → List (List ℕ) → List ℕ

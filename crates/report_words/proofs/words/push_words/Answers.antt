@@ -1,8 +1,8 @@
 use Rattle.std.proofs.Common.{ℕ, ◌++◌, ◌∷◌, List, ap, append_assoc, ◌∙◌}
 use Rattle.std.specs.List.{flat_map}
-use Rattle.ft_report.proofs.Joined.{joined_words}
-use Rattle.ft_report.specs.Words.{word_text}
-use Rattle.ft_report.proofs.words.push_words.Goals as goal
+use Rattle.report_words.proofs.Joined.{joined_words}
+use Rattle.report_words.specs.Words.{word_text}
+use Rattle.report_words.proofs.words.push_words.Goals as goal
 
 pub returns-in_ok-push_each : goal.returns-in_ok-push_each
 returns-in_ok-push_each c =

@@ -1,7 +1,7 @@
 ghost use Rattle.std.specs.Prelude.{◌≡◌, ◌++◌, ◌∷◌, [], ℕ, map, decimal, IfOk, OnOk};
 ghost use Rattle.std.specs.Fmt.{signed_decimal};
 ghost use Rattle.std.specs.List.{flat_map};
-ghost use Rattle.ft_report.specs.Words.{hosts_text, joined_text, line, octets_text, phrase_text, word_text};
+ghost use Rattle.report_words.specs.Words.{hosts_text, joined_text, line, octets_text, phrase_text, word_text};
 
 use crate::hexadecimal::push_hexadecimal;
 use ft_base::{Bytes, HostNo, Members, Name, NoMemory};

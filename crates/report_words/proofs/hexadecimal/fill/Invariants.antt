@@ -1,6 +1,6 @@
 use Rattle.std.proofs.Common.{◌≡◌, ◌*◌, ◌++◌, take, drop}
 use Rattle.hex.specs.Hex.{encode_lower}
-use Rattle.ft_report.proofs.hexadecimal.fill.Given as goal
+use Rattle.report_words.proofs.hexadecimal.fill.Given as goal
 
 abbrev pub invariant-octets : goal.invariant-octets
 invariant-octets l =
