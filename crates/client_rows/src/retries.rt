@@ -1,3 +1,5 @@
+ghost use Rattle.std.specs.Prelude.{◌≡◌, false, is_some};
+
 use client_retry::{Act, ClientCore, End, Heard};
 use ft_base::{Bytes, GroupId, Name, NoMemory, Outcome, Tick, Version};
 use iogr_reference::{Components, GroupRef, Iiop, IiopList};
@@ -53,6 +55,22 @@ fn shown(act: &Act) -> (&'static str, u64, u64) {
     }
 }
 
+/// What a client says that begins an invocation.
+fn started(
+    client: &mut ClientCore,
+    reference: GroupRef,
+    expiration: Tick,
+) -> (&'static str, u64, u64)
+    requires { is_some client.old.progress ≡ false }
+{
+    shown(&client.start(reference, expiration))
+}
+
+/// What it says where there is no reply.
+fn unanswered(client: &mut ClientCore, now: Tick) -> (&'static str, u64, u64) {
+    shown(&client.fault(now))
+}
+
 fn exception(kind: SysKind) -> Heard {
     Heard::System(SysFault {
         kind,
@@ -80,14 +98,11 @@ fn heard(alloc: Global, name: &'static str) -> Result<Heard, NoMemory> {
     Ok(heard)
 }
 
-// Six timeouts of two members, or one at the expiration.
+// Six timeouts of two members, and the next invocation.
 #[test]
-fn ends_without_a_reply(rt: HostRuntime) -> Result<(), Fail> {
+fn no_reply_of_any_member(rt: HostRuntime) -> Result<(), Fail> {
     let mut client = ClientCore::new();
-    assert!(rt; client.reference().is_none());
-    assert!(rt; !client.is_open());
-    let first = client.start(group(rt.alloc(), 1, 2, Some(0))?, Tick(10));
-    assert!(rt; shown(&first) == ("send", 0, 1));
+    let two = group(rt.alloc(), 1, 2, Some(0))?;
     let acts = [
         ("send", 1, 2),
         ("send", 0, 3),
@@ -97,17 +112,27 @@ fn ends_without_a_reply(rt: HostRuntime) -> Result<(), Fail> {
         ("transient", 6, 2),
         ("nothing", 0, 0),
     ];
+    assert!(rt; started(&mut client, two, Tick(10)) == ("send", 0, 1));
     for want in acts {
-        assert!(rt; shown(&client.fault(Tick(9))) == want);
+        assert!(rt; unanswered(&mut client, Tick(9)) == want);
     }
+    let one = group(rt.alloc(), 1, 1, None)?;
+    assert!(rt; !client.is_open() && client.reference().is_some());
+    assert!(rt; started(&mut client, one, Tick(10)) == ("send", 0, 7));
+    Ok(())
+}
+
+// A timeout at the expiration, and a group without members.
+#[test]
+fn no_reply_in_time(rt: HostRuntime) -> Result<(), Fail> {
+    let mut client = ClientCore::new();
+    let one = group(rt.alloc(), 1, 1, None)?;
+    assert!(rt; client.reference().is_none() && !client.is_open());
+    assert!(rt; started(&mut client, one, Tick(10)) == ("send", 0, 1));
+    assert!(rt; unanswered(&mut client, Tick(10)) == ("no response", 10, 10));
+    let none = group(rt.alloc(), 1, 0, None)?;
     assert!(rt; !client.is_open());
-    assert!(rt; client.reference().is_some());
-    let next = client.start(group(rt.alloc(), 1, 1, None)?, Tick(10));
-    assert!(rt; shown(&next) == ("send", 0, 7));
-    assert!(rt; shown(&client.fault(Tick(10))) == ("no response", 10, 10));
-    assert!(rt; !client.is_open());
-    let empty = client.start(group(rt.alloc(), 1, 0, None)?, Tick(10));
-    assert!(rt; shown(&empty) == ("transient", 0, 0));
+    assert!(rt; started(&mut client, none, Tick(10)) == ("transient", 0, 0));
     assert!(rt; !client.is_open());
     let given = client.take_reference();
     assert!(rt; given.is_some() && client.reference().is_none());

@@ -210,29 +210,46 @@ fn groups_are_shown(rt: HostRuntime) -> Result<(), NoMemory> {
     each_row::<Brand>(&rt, rt.alloc(), Blank::new(1))
 }
 
+/// Whether this is the version of a group's newest reference.
+fn is_newest(alloc: Global, group: &ScriptGroup, version: u32) -> Result<bool, NoMemory>
+    requires { IsKept group.now }
+{
+    let ports = all_ports(alloc)?;
+    let newest = group.newest_reference(alloc, &ports)?;
+    Ok(newest.version == Version(version))
+}
+
 /// How many members the reference of a version has; none where there is no such view.
-fn refer(
-    rt: &impl Abort,
-    alloc: Global,
-    group: &ScriptGroup,
-    version: u32,
-    members: Option<usize>,
-) -> Result<(), NoMemory>
+fn members_at(alloc: Global, group: &ScriptGroup, version: u32) -> Result<Option<usize>, NoMemory>
+    requires { IsKept group.now }
+{
+    let ports = all_ports(alloc)?;
+    match group.reference_at(alloc, Version(version), &ports)? {
+        None => Ok(None),
+        Some(found) => Ok(Some(found.profiles.as_slice().len())),
+    }
+}
+
+/// Whether a version has a reference as it goes over links.
+fn has_ior(alloc: Global, group: &ScriptGroup, version: u32) -> Result<bool, NoMemory>
     requires { IsKept group.now }
 {
     let ports = all_ports(alloc)?;
     let ior = group.ior_at(alloc, Version(version), &ports)?;
-    assert!(rt; ior.is_some() == members.is_some(), "ior {version}");
-    match group.reference_at(alloc, Version(version), &ports)? {
-        None => assert!(rt; members.is_none(), "no reference {version}"),
-        Some(found) => {
-            assert!(rt;
-                members == Some(found.profiles.as_slice().len()),
-                "reference {version}"
-            );
-        }
-    }
-    Ok(())
+    Ok(ior.is_some())
+}
+
+/// Whether the references of a version have so many members; none where there is no such view.
+fn are_of(
+    alloc: Global,
+    group: &ScriptGroup,
+    version: u32,
+    members: Option<usize>,
+) -> Result<bool, NoMemory>
+    requires { IsKept group.now }
+{
+    let is_so = has_ior(alloc, group, version)? == members.is_some();
+    Ok(is_so && members_at(alloc, group, version)? == members)
 }
 
 /// What is read of a group, and of its member on a host.
@@ -271,6 +288,16 @@ const READ: &str = concat!(
 );
 
 // Both views of a group, and one that it hasn't had.
+fn refer(rt: &impl Abort, alloc: Global, group: &ScriptGroup) -> Result<(), NoMemory>
+    requires { IsKept group.now }
+{
+    assert!(rt; is_newest(alloc, group, 2)?);
+    for (version, members) in [(1, Some(3)), (2, Some(2)), (3, None)] {
+        assert!(rt; are_of(alloc, group, version, members)?, "{version}");
+    }
+    Ok(())
+}
+
 fn references<L: Ledger>(rt: &impl Abort, alloc: Global, blank: Blank) -> Result<(), NoMemory>
     requires name { blank.name ≡ L.name }
     requires parts { blank.parts ≡ L.parts }
@@ -278,12 +305,7 @@ fn references<L: Ledger>(rt: &impl Abort, alloc: Global, blank: Blank) -> Result
 {
     let mut steps = Steps::<L>::new(blank);
     let group = after(alloc, &[Step::Report(0)], &mut steps)?;
-    let ports = all_ports(alloc)?;
-    let newest = group.newest_reference(alloc, &ports)?;
-    assert!(rt; newest.version == Version(2));
-    refer(rt, alloc, &group, 1, Some(3))?;
-    refer(rt, alloc, &group, 2, Some(2))?;
-    refer(rt, alloc, &group, 3, None)
+    refer(rt, alloc, &group)
 }
 
 #[test]

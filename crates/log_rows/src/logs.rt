@@ -209,31 +209,47 @@ const ROWS: [Row; 9] = [
     (9, 1, 3, (3, 3, 9, 2, 2), true),
 ];
 
-/// Whether a log is opened again as it was.
+/// The records of the run, where this write fails.
+fn written(alloc: Global, fails: u64) -> Result<MemKeeper, NoMemory> {
+    let Some(mut log) = begun(alloc, fails)? else {
+        return Err(NoMemory);
+    };
+    run_all(alloc, &mut log)?;
+    Ok(log.into_keeper())
+}
+
+fn is_like(live: &Log<MemKeeper>, again: &Log<MemKeeper>, replied: bool) -> bool {
+    are_same(live, again) && again.table().reply(0).is_some() == replied
+}
+
+/// Whether the run in which this write fails leaves so many records, and is opened again from them as it was.
 fn is_kept(
     alloc: Global,
     live: &Log<MemKeeper>,
-    keeper: MemKeeper,
+    fails: u64,
+    records: u64,
     replied: bool,
 ) -> Result<bool, NoMemory> {
+    let keeper = written(alloc, fails)?;
+    if keeper.count() != records {
+        return Ok(false);
+    }
     match reopened(alloc, keeper)? {
-        Ok(again) => Ok(are_same(live, &again) && again.table().reply(0).is_some() == replied),
+        Ok(again) => Ok(is_like(live, &again, replied)),
         Err(_) => Ok(false),
     }
 }
 
 fn is_run_so(alloc: Global, row: &Row) -> Result<bool, NoMemory> {
     let (fails, failing, records, wanted, replied) = row;
-    let (Some(mut live), Some(mut stopped)) = (begun(alloc, *fails)?, begun(alloc, *fails)?) else {
+    let Some(mut live) = begun(alloc, *fails)? else {
         return Ok(false);
     };
     let failed = run_all(alloc, &mut live)?;
-    run_all(alloc, &mut stopped)?;
-    let keeper = stopped.into_keeper();
-    if failed != *failing || keeper.count() != *records || shape(&live) != *wanted {
+    if failed != *failing || shape(&live) != *wanted {
         return Ok(false);
     }
-    is_kept(alloc, &live, keeper, *replied)
+    is_kept(alloc, &live, *fails, *records, *replied)
 }
 
 #[test]
@@ -265,15 +281,6 @@ fn are_admitted(alloc: Global, log: &Log<MemKeeper>) -> Result<bool, NoMemory> {
         }
     }
     Ok(true)
-}
-
-/// The records of the run, where this write fails.
-fn written(alloc: Global, fails: u64) -> Result<MemKeeper, NoMemory> {
-    let Some(mut log) = begun(alloc, fails)? else {
-        return Err(NoMemory);
-    };
-    run_all(alloc, &mut log)?;
-    Ok(log.into_keeper())
 }
 
 #[test]

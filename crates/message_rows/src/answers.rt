@@ -1,4 +1,4 @@
-ghost use Rattle.std.specs.Prelude.{◌≡◌, ◌<◌, ◌^◌, Some, length, IfOk};
+ghost use Rattle.std.specs.Prelude.{◌<◌, ◌^◌, Some, length, IfOk};
 ghost use Rattle.ft_base.specs.declared.requests.Par.TheVariants as pars;
 ghost use Rattle.cdr_codec.specs.declared.orders.Order.TheVariants.{Big};
 ghost use Rattle.sys_faults.specs.declared.faults.Completed.TheVariants.{No};
@@ -117,7 +117,7 @@ fn text(alloc: Global) -> Result<Bytes, NoMemory>
 }
 
 #[test]
-fn values_in_both_byte_orders(rt: HostRuntime) -> Result<(), NoMemory> {
+fn numbers_in_both_byte_orders(rt: HostRuntime) -> Result<(), NoMemory> {
     let alloc = rt.alloc();
     let answer = PortAnswer::Done {
         outcome: Outcome::Value(number(alloc, 5)?),
@@ -125,6 +125,12 @@ fn values_in_both_byte_orders(rt: HostRuntime) -> Result<(), NoMemory> {
     };
     assert!(rt; is_replied(alloc, 7, Order::Little, &answer, FIVE_LITTLE)?);
     assert!(rt; is_replied(alloc, 1, Order::Big, &answer, FIVE_BIG)?);
+    Ok(())
+}
+
+#[test]
+fn texts_in_both_byte_orders(rt: HostRuntime) -> Result<(), NoMemory> {
+    let alloc = rt.alloc();
     let answer = PortAnswer::Done {
         outcome: Outcome::Value(text(alloc)?),
         gives: Some(Par::Text),
@@ -157,26 +163,32 @@ fn user_exceptions(rt: HostRuntime) -> Result<(), NoMemory> {
     Ok(())
 }
 
-fn system(kind: SysKind, minor: u32) -> PortAnswer
-    ensures { result ≡ PortAnswer.System (record { kind = kind; minor = minor; completed = No }) }
+fn is_system(
+    alloc: Global,
+    id: u32,
+    order: Order,
+    kind: SysKind,
+    minor: u32,
+    text: &str,
+) -> Result<bool, NoMemory>
+    requires { CanReply order (PortAnswer.System (record { kind = kind; minor = minor; completed = No })) }
 {
-    PortAnswer::System(SysFault {
+    let fault = SysFault {
         kind,
         minor,
         completed: Completed::No,
-    })
+    };
+    is_replied(alloc, id, order, &PortAnswer::System(fault), text)
 }
 
 #[test]
 fn system_exceptions(rt: HostRuntime) -> Result<(), NoMemory> {
     let alloc = rt.alloc();
-    let bad_context = system(SysKind::BadContext, 3);
-    let inv_objref = system(SysKind::InvObjref, 1);
-    let imp_limit = system(SysKind::ImpLimit, 1);
-    assert!(rt; is_replied(alloc, 0, Order::Big, &PortAnswer::NoGroup, NO_GROUP)?);
-    assert!(rt; is_replied(alloc, 8, Order::Little, &bad_context, BAD_CONTEXT)?);
-    assert!(rt; is_replied(alloc, 3, Order::Big, &inv_objref, INV_OBJREF)?);
-    assert!(rt; is_replied(alloc, 4, Order::Big, &imp_limit, IMP_LIMIT)?);
+    let (big, little) = (Order::Big, Order::Little);
+    assert!(rt; is_replied(alloc, 0, big, &PortAnswer::NoGroup, NO_GROUP)?);
+    assert!(rt; is_system(alloc, 8, little, SysKind::BadContext, 3, BAD_CONTEXT)?);
+    assert!(rt; is_system(alloc, 3, big, SysKind::InvObjref, 1, INV_OBJREF)?);
+    assert!(rt; is_system(alloc, 4, big, SysKind::ImpLimit, 1, IMP_LIMIT)?);
     Ok(())
 }
 

@@ -119,6 +119,14 @@ fn is_balance(message: &Message) -> bool {
     }
 }
 
+// Whether no further message is whole.
+fn is_waiting(framer: &mut Framer) -> bool {
+    match framer.next() {
+        Ok(None) => true,
+        _ => false,
+    }
+}
+
 #[test]
 fn two_fragments_at_every_cut(rt: HostRuntime) -> Result<(), NoMemory> {
     let alloc = rt.alloc();
@@ -127,10 +135,8 @@ fn two_fragments_at_every_cut(rt: HostRuntime) -> Result<(), NoMemory> {
     assert_eq!(rt; link.len(), 72);
     for cut in 0..link.len() {
         let mut framer = Framer::new(alloc);
-        let mut early = Vec::new(alloc);
         framer.feed(&link[..cut])?;
-        assert!(rt; drain(&mut framer, &mut early)?.is_none());
-        assert!(rt; early.is_empty());
+        assert!(rt; is_waiting(&mut framer));
         assert_eq!(rt; framer.unfinished() as usize, cut);
         framer.feed(&link[cut..])?;
         match framer.next() {
@@ -246,23 +252,36 @@ fn first_part(id: u8) -> [u8; 16] {
     [b'G', b'I', b'O', b'P', 1, 2, 2, 3, 0, 0, 0, 4, 0, 0, 0, id]
 }
 
-#[test]
-fn nine_begun(rt: HostRuntime) -> Result<(), NoMemory> {
-    let alloc = rt.alloc();
-    let mut framer = Framer::new(alloc);
-    let mut ids = Vec::new(alloc);
+// Feeds the first parts of the messages 1 to 8.
+fn begin_eight(framer: &mut Framer) -> Result<(), NoMemory> {
     for id in 1..9u8 {
         framer.feed(&first_part(id))?;
     }
+    Ok(())
+}
+
+// Whether a framer answers with this fault, whatever it is fed.
+fn is_at_fault(framer: &mut Framer, piece: &[u8], fault: StreamFault) -> Result<bool, NoMemory> {
+    framer.feed(piece)?;
+    match framer.next() {
+        Err(told) => Ok(told == fault),
+        Ok(_) => Ok(false),
+    }
+}
+
+#[test]
+fn nine_begun(rt: HostRuntime) -> Result<(), NoMemory> {
+    let mut framer = Framer::new(rt.alloc());
+    let ninth = StreamFault::Malformed {
+        why: Why::Open,
+        place: 12,
+    };
+    begin_eight(&mut framer)?;
     assert_eq!(rt; framer.unfinished(), 128);
-    assert!(rt; drain(&mut framer, &mut ids)?.is_none());
+    assert!(rt; is_waiting(&mut framer));
     assert_eq!(rt; framer.unfinished(), 128);
-    framer.feed(&first_part(9))?;
-    let ninth = malformed(Why::Open, 12);
-    assert!(rt; drain(&mut framer, &mut ids)? == ninth);
-    framer.feed(Z1)?;
-    assert!(rt; drain(&mut framer, &mut ids)? == ninth);
-    assert!(rt; ids.is_empty());
+    assert!(rt; is_at_fault(&mut framer, &first_part(9), ninth)?);
+    assert!(rt; is_at_fault(&mut framer, Z1, ninth)?);
     Ok(())
 }
 

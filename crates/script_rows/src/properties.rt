@@ -109,16 +109,19 @@ fn create(
     manager.adopt(alloc, group, type_id, criteria).is_ok()
 }
 
+/// Whether the last of these properties is the interval of checkpoints, with this value.
+fn is_last(properties: &[Property], value: &[u8]) -> bool {
+    match properties.last() {
+        None => false,
+        Some(last) => last.name.bytes() == INTERVAL && last.value.0.bytes() == value,
+    }
+}
+
 /// Whether these are ten properties, the last of which is the interval of checkpoints with this value.
 fn ends_with(properties: Result<Properties, PropertyFault>, value: &[u8]) -> bool {
     match properties {
         Err(_) => false,
-        Ok(properties) => match properties.all().get(9) {
-            None => false,
-            Some(property) => {
-                property.name.bytes() == INTERVAL && property.value.0.bytes() == value
-            }
-        },
+        Ok(properties) => properties.all().len() == 10 && is_last(properties.all(), value),
     }
 }
 

@@ -41,20 +41,14 @@ fn attempt(alloc: Global, message: u64, id: u32) -> Result<ReportLine, NoMemory>
     })
 }
 
-fn reply(
-    alloc: Global,
-    message: u64,
-    id: u32,
-    shown: ReportOutcome,
-) -> Result<ReportLine, NoMemory> {
-    let client = name(alloc, b"ann")?;
-    Ok(ReportLine::Reply {
+fn reply(client: Name, message: u64, id: u32, shown: ReportOutcome) -> ReportLine {
+    ReportLine::Reply {
         message,
         host: HOST,
         client,
         id,
         shown,
-    })
+    }
 }
 
 fn at(alloc: Global, decision: Decision) -> Result<ReportLine, NoMemory> {
@@ -204,7 +198,8 @@ fn one_call(alloc: Global, rows: &mut Vec<Row>) -> Result<(), NoMemory> {
         attempt(alloc, 1, 2)?,
         "msg 1 client ann to host 1 request 2\n",
     ))?;
-    let answered = reply(alloc, 2, 1, ReportOutcome::Value(Worth::Number(5)))?;
+    let client = name(alloc, b"ann")?;
+    let answered = reply(client, 2, 1, ReportOutcome::Value(Worth::Number(5)));
     rows.push((answered, "msg 2 host 0 to client ann reply 1 value 5\n"))?;
     rows.push((valued(alloc, 1, Worth::Number(5))?, "done ann 1 value 5\n"))?;
     let show = ReportLine::Show {
@@ -353,7 +348,7 @@ fn outcomes(alloc: Global, rows: &mut Vec<Row>) -> Result<(), NoMemory> {
     let group = name(alloc, b"bank")?;
     let version = Version(u32::MAX);
     let perm = ReportOutcome::ForwardPerm { group, version };
-    let answered = reply(alloc, 6, 3, perm.copy(alloc)?)?;
+    let answered = reply(name(alloc, b"ann")?, 6, 3, perm.copy(alloc)?);
     rows.push((
         answered,
         "msg 6 host 0 to client ann reply 3 forward-perm bank 4294967295\n",
@@ -443,7 +438,7 @@ fn lines_from_parts(rt: HostRuntime) -> Result<(), NoMemory> {
     parts.push_bytes(&bytes)?;
     let mut lines = ReportLines::new(alloc);
     lines.push(at(alloc, Decision::Append(0))?)?;
-    lines.push(reply(alloc, 2, 1, shown)?)?;
+    lines.push(reply(client, 2, 1, shown))?;
     lines.push(ReportLine::Bytes(bytes))?;
     assert!(rt; parts.into_bytes().bytes() == lines.into_bytes().bytes());
     Ok(())
@@ -493,12 +488,16 @@ const DECISIONS: [(Decision, &str); 16] = [
     (Decision::Context(13), "at 0 bank context 13\n"),
 ];
 
+fn is_decision(alloc: Global, decision: Decision, want: &str) -> Result<bool, NoMemory> {
+    let line = at(alloc, decision)?;
+    is_written(alloc, &line, want)
+}
+
 #[test]
 fn each_decision(rt: HostRuntime) -> Result<(), NoMemory> {
     let alloc = rt.alloc();
     for (decision, want) in &DECISIONS {
-        let line = at(alloc, *decision)?;
-        assert!(rt; is_written(alloc, &line, want)?, "{want}");
+        assert!(rt; is_decision(alloc, *decision, want)?, "{want}");
     }
     Ok(())
 }
@@ -542,12 +541,15 @@ const REFUSALS: [(ManageFault, &str); 11] = [
     (ManageFault::NoMemory, "refused NO_MEMORY\n"),
 ];
 
+fn is_refusal(alloc: Global, fault: ManageFault, want: &str) -> Result<bool, NoMemory> {
+    is_written(alloc, &ReportLine::Refused(fault), want)
+}
+
 #[test]
 fn each_refusal(rt: HostRuntime) -> Result<(), NoMemory> {
     let alloc = rt.alloc();
     for (fault, want) in &REFUSALS {
-        let line = ReportLine::Refused(*fault);
-        assert!(rt; is_written(alloc, &line, want)?, "{want}");
+        assert!(rt; is_refusal(alloc, *fault, want)?, "{want}");
     }
     Ok(())
 }
@@ -569,15 +571,15 @@ const CAUSES: [(Why, &str); 13] = [
     (Why::Status, "link malformed status 12\n"),
 ];
 
+fn is_cause(alloc: Global, why: Why, want: &str) -> Result<bool, NoMemory> {
+    is_written(alloc, &ReportLine::LinkMalformed { why, place: 12 }, want)
+}
+
 #[test]
 fn each_cause(rt: HostRuntime) -> Result<(), NoMemory> {
     let alloc = rt.alloc();
     for (why, want) in &CAUSES {
-        let line = ReportLine::LinkMalformed {
-            why: *why,
-            place: 12,
-        };
-        assert!(rt; is_written(alloc, &line, want)?, "{want}");
+        assert!(rt; is_cause(alloc, *why, want)?, "{want}");
     }
     Ok(())
 }
