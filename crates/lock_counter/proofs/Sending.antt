@@ -12,7 +12,7 @@ use denote.Param.Send.{IsSend, IsSync, sendable, recorded_send, recorded_sync, s
 use Rattle.std.proofs.Crossing.{crosses}
 use Rattle.hist_lock.specs.contracts.locks.HistLock as locks
 use Rattle.hist_lock.specs.contracts.passes.Pass as passes
-use Rattle.hist_lock.proofs.Sending.{lock_sync, pass_send}
+use Rattle.hist_lock.specs.Sending.{lock_sync, pass_send}
 use Rattle.lock_counter.specs.contracts.counters.Counter as counters
 use Rattle.lock_counter.specs.contracts.counters.CounterObject.TheImpl.{ghosts}
 

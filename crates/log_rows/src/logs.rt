@@ -218,6 +218,7 @@ fn written(alloc: Global, fails: u64) -> Result<MemKeeper, NoMemory> {
     Ok(log.into_keeper())
 }
 
+/// Whether a log that was opened again is the live one, and has entry 0's reply or lacks it as it should.
 fn is_like(live: &Log<MemKeeper>, again: &Log<MemKeeper>, replied: bool) -> bool {
     are_same(live, again) && again.table().reply(0).is_some() == replied
 }
