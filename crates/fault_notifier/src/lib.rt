@@ -1,4 +1,4 @@
-//! Who is told of the faults of members. (Chapter 23, FaultNotifier.)
+//! The notifier: who is told of which faults of members, by filters. (Chapter 23, FaultNotifier.)
 //!
 //! A notifier keeps all fault events in order, and for each subscriber the place from which its
 //! events are still to be read: it is told of those that were pushed since its connection and that

@@ -1,4 +1,4 @@
-//! What makes and lets go of members' objects. (Chapter 23, GenericFactory.)
+//! The factory of members' objects: what it makes, deletes and refuses. (Chapter 23, GenericFactory.)
 //!
 //! A factory makes a servant by its type id, or says why it doesn't: criteria that it can't meet are
 //! refused in one order. It keeps which objects it has made, and of which kind.

@@ -1,7 +1,7 @@
-//! One group's events. A core holds a group's log and its 64 hosts, and acts every event of the group:
-//! requests, views, states, updates, orders, stops and starts, checkpoints, and changes of members.
-//! Whatever comes, the core stands for the plain group after it. (Chapter 23, Logging and Recovery
-//! Mechanisms.)
+//! One group: its log and its 64 hosts, and what each event makes of them. The events are requests, views,
+//! states, updates, orders, stops and starts, checkpoints, and changes of members. After each event that
+//! agrees with the plain group, the core stands for the plain group after it. (Chapter 23, Logging and
+//! Recovery Mechanisms.)
 //!
 //! A takeover, as the tests have it: the primary, host 0, has stopped behind the append of a deposit of 5. Each row has
 //! an event at the core, or a look at it, and what is told.

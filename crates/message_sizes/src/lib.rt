@@ -1,5 +1,4 @@
-//! How many bytes the messages of a script have, as messages of GIOP 1.2: so a limit on bytes in messages is
-//! counted without writing them. (GIOP chapter, "GIOP Message Formats".)
+//! How many bytes the messages of a script would have in GIOP 1.2, counted without writing them. (GIOP chapter, "GIOP Message Formats".)
 //!
 //! A text of two letters as a Reply, counted and then written:
 //!

@@ -1,4 +1,4 @@
-//! The run of `ftc`: the words of the command line, the world that the lines of a script act on, the
+//! The run of `ftc`: the words of the command line, the world in which a script's lines run, the
 //! counts of a script that is made, and the status with its text. What the whole run is,
 //! specs/Headline.antt says.
 //!

@@ -1,5 +1,5 @@
-//! The run of a script: its lines come in pieces of any size, each whole line is acted, and the
-//! output of the lines of a piece is out before the next piece is read. What a line does is left to
+//! The run of a script: its lines come in pieces of any size, each whole line is run, and the output
+//! of the lines of a piece is out before the next piece is read. What a line does is left to
 //! [`Actor`]; what a run does is defined over whole lines alone, in specs/Runs.antt.
 //!
 //! A script in memory, whose lines are written back by the actor `Echo`:

@@ -1,4 +1,4 @@
-//! Those who subscribe in a script, by their names.
+//! Those who subscribe to faults in a script, by their names.
 //!
 //! One subscribes to the faults of host 2, and is told of them one by one:
 //!

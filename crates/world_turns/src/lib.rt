@@ -1,4 +1,4 @@
-//! What a line of a script does to its world, and how it is said: the world behind it, what is printed, the servant
+//! What a line of a script does to its world, and how it is said: the world after it, what is printed, the servant
 //! calls, and refusals; and how what a group sends becomes messages.
 #![tactic(auto)]
 
