@@ -1,13 +1,12 @@
 -- A line that begins with `#`.
-use Rattle.std.proofs.Common.{◌≡◌, ◌≤◌, ℕ, ◌==◌, ◌∙◌, ap, sym, subst, cond, nat_lt, true, false, List, [], ◌∷◌, length, Ok, Err, None, refl, arith}
+use Rattle.std.proofs.Common.{◌≡◌, ◌≤◌, ℕ, ◌==◌, ◌∙◌, ap, sym, subst, cond, true, false, List, [], ◌∷◌, length, Ok, None, refl, arith}
 use Rattle.std.specs.Prelude.{filter}
 use Rattle.std.specs.List.{slice_split, onto_first}
 use Rattle.std.proofs.lemmas.Bool.Decides.{nat_tests}
 use Rattle.std.proofs.lemmas.List.Splits.{slice_split-cons_no}
 use Rattle.fault_script.specs.Words.{is_blank, is_filled, is_comment, words}
 use Rattle.fault_script.specs.Forms.{parse, parse_words, as_some, line_of}
-use Rattle.fault_script.specs.declared.lines.LineFault.TheVariants.{Limit}
-use Rattle.fault_script.specs.declared.lines.LimitName.TheVariants as limits
+use Rattle.fault_script.proofs.ReadingLemmas.{parse-short}
 
 no_blank : (x : ℕ) → (x == 35) ≡ true → is_blank x ≡ false
 no_blank x h =
@@ -31,6 +30,4 @@ no_line (x ∷ xs) h =
     ∙ begins_with_it x (slice_split is_blank xs) h
 
 pub no_line_read : (text : List ℕ) → length text ≤ 4096 → is_comment text ≡ true → parse text ≡ Ok None
-no_line_read text l h =
-    let short : nat_lt 4096 (length text) ≡ false = grind (arith, nat_tests) in
-    ap (λ b. cond b (Err (Limit limits.Line)) (parse_words (words text))) short ∙ no_line text h
+no_line_read text l h = parse-short text l ∙ no_line text h

@@ -1,7 +1,8 @@
 pub mod NameLemmas
-pub mod FormLemmas
+pub mod StepLemmas
 pub mod EachLemmas
-pub mod SettingLemmas
+pub mod CriterionLemmas
+pub mod PartLemmas
 pub mod GrammarLemmas
 pub mod ReadingLemmas
 pub mod LineLemmas

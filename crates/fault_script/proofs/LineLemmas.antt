@@ -5,8 +5,8 @@ use Rattle.fault_script.specs.Words.{words}
 use Rattle.fault_script.specs.Faults.{IsAnswer}
 use Rattle.fault_script.specs.Forms.{parse_words, parse}
 use Rattle.fault_script.specs.Grammar.{Spells}
-use Rattle.fault_script.proofs.GrammarLemmas.{read_is_spelled}
-use Rattle.fault_script.proofs.ReadingLemmas.{spelled_is_read, parse-short}
+use Rattle.fault_script.proofs.GrammarLemmas.{read_is_spelled, spelled_is_read}
+use Rattle.fault_script.proofs.ReadingLemmas.{parse-short}
 use Rattle.fault_script.specs.declared.lines.Line.{Line}
 use Rattle.fault_script.specs.declared.lines.LineFault.{LineFault}
 use Rattle.fault_script.specs.declared.lines.LineFault.TheVariants.{Limit}

@@ -8,7 +8,7 @@ use Rattle.std.proofs.lemmas.Bool.Decides.{nat_tests}
 use Rattle.std.proofs.lemmas.List.Quantifiers.{position-Some}
 use Rattle.std.proofs.lemmas.List.Folds.{list_all_at}
 use Rattle.ft_base.specs.Text.{zero_place}
-use Rattle.fault_script.specs.Words.{is_name_byte, is_script_name, is_operation}
+use Rattle.fault_script.specs.Words.{is_name_byte, is_script_name, is_identifier}
 
 no_zero_at : (word : List ℕ) (place : ℕ) → list_all is_name_byte word ≡ true → zero_place word ≡ Some place → zero_place word ≡ None
 no_zero_at word place all found =
@@ -24,8 +24,8 @@ no_zero_byte word all =
     λ found. elim found as (λ f. zero_place word ≡ f → zero_place word ≡ None) [ None ↦ λ e. e | Some place ↦ λ e. no_zero_at word place all e ]
     in go (zero_place word) refl
 
-pub script_name_operation : (word : List ℕ) → is_script_name word ≡ true → is_operation word ≡ true
-script_name_operation word name =
+pub script_name_is_identifier : (word : List ℕ) → is_script_name word ≡ true → is_identifier word ≡ true
+script_name_is_identifier word name =
     let all = and_parts (nat_le 1 (length word) && nat_le (length word) 64 && is_ascii_alphabetic (slice_index word 0)) (list_all is_name_byte word) name in
     let first = and_parts (nat_le 1 (length word) && nat_le (length word) 64) (is_ascii_alphabetic (slice_index word 0)) all.0 in
     let sizes = and_parts (nat_le 1 (length word)) (nat_le (length word) 64) first.0 in

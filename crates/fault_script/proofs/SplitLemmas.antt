@@ -24,14 +24,14 @@ split_at (x ∷ xs) (suc i) l h e =
 pub cut_none : (xs : List ℕ) → Nowhere (Passes is_blank xs) 0 (length xs) → slice_split is_blank xs ≡ xs ∷ []
 cut_none xs h = split_none xs (λ k l. not_so (is_blank (get_or xs k 0)) (h k (omega arith) l))
 
-pub cut_some : (xs front rest : List ℕ) (i : ℕ) → NoneBefore (Passes is_blank xs) 0 (length xs) i → Passes is_blank xs i
-    → front ≡ take i xs → rest ≡ drop (i + 1) xs → slice_split is_blank xs ≡ front ∷ slice_split is_blank rest
-cut_some xs front rest i none is f r =
+pub cut_some : (xs before rest : List ℕ) (i : ℕ) → NoneBefore (Passes is_blank xs) 0 (length xs) i → Passes is_blank xs i
+    → before ≡ take i xs → rest ≡ drop (i + 1) xs → slice_split is_blank xs ≡ before ∷ slice_split is_blank rest
+cut_some xs before rest i none is f r =
     let next : suc i ≡ i + 1 = omega arith in
     split_at xs i none.high (λ k l. not_so (is_blank (get_or xs k 0)) (none.before k (omega arith) l)) is
     ∙ ap (λ (n : ℕ). take i xs ∷ slice_split is_blank (drop n xs)) next
     ∙ ap (λ (ys : List ℕ). ys ∷ slice_split is_blank (drop (i + 1) xs)) (sym f)
-    ∙ ap (λ (ys : List ℕ). front ∷ slice_split is_blank ys) (sym r)
+    ∙ ap (λ (ys : List ℕ). before ∷ slice_split is_blank ys) (sym r)
 
 larger_fills : (x : ℕ) → 32 < x → is_blank x ≡ false
 larger_fills x l = grind (arith, nat_tests)
@@ -40,7 +40,7 @@ before_one : (xs : List ℕ) → 32 < get_or xs 0 0 → (k : ℕ) → k < 1 → 
 before_one xs large zero h p = (let f : is_blank (get_or xs 0 0) ≡ false = larger_fills (get_or xs 0 0) large in cc)
 before_one xs large (suc k) h p = omega (arith, h)
 
--- a word of one byte in front of a space
+-- a word of one byte before a space
 pub one_byte_first : (xs : List ℕ) → 1 < length xs → 32 < get_or xs 0 0 → get_or xs 1 0 ≡ 32 → IsFirstByte is_blank xs (Some 1)
 one_byte_first xs long large space = (
   record { low = omega arith; high = long; before = λ k l h. before_one xs large k h },

@@ -10,10 +10,6 @@ abbrev pub IsAnswer : {X : Type 0} → Result X LineFault → Result X LineFault
 IsAnswer answer wanted =
     MatchResult answer (λ value. wanted ≡ Ok value) (λ fault. (fault ≡ faults.NoMemory) ⊎ (wanted ≡ Err fault))
 
--- a call leaves what is wanted at a place, or answers why it is refused
-abbrev pub IsPut : {X Y : Type 0} → Result Y LineFault → X → Result X LineFault → Type 0
-IsPut answer left wanted = MatchResult answer (λ _. wanted ≡ Ok left) (λ fault. wanted ≡ Err fault)
-
 -- a call that takes memory leaves what is wanted at a place, or answers why it is refused, or that there is no memory
 abbrev pub IsLeft : {X Y : Type 0} → Result Y LineFault → X → Result X LineFault → Type 0
 IsLeft answer left wanted =

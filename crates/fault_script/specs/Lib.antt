@@ -2,8 +2,9 @@ pub mod Words
 pub mod Numbers
 pub mod Properties
 pub mod Faults
-pub mod Forms
+pub mod Parts
 pub mod Grammar
+pub mod Forms
 pub mod Options
 pub mod Arguments
 pub mod Digits

@@ -1,7 +1,6 @@
 -- Numbers in words: decimal, of 1 to 20 digits, with any zeros in front (decimal_numbers); and with a sign, a
 -- range, or a cap.
 use Rattle.std.specs.Prelude.{ℕ, ◌-◌, ◌^◌, ◌==◌, Bool, nat_lt, min, if◌then◌else◌, List, Option, Some, None, option_map, option_and_then, ℤ, pos, negsuc, neg_ℤ, slice_index, drop}
-use Rattle.fault_script.specs.Words.{each}
 pub use Rattle.decimal_numbers.specs.Numbers.{is_number, number}
 
 -- the greatest number of 64 bits stands for every number above it
@@ -11,10 +10,6 @@ capped value = min value (2 ^ 64 - 1)
 -- the host whose number a word is, if it is a number
 abbrev pub host_number : List ℕ → Option ℕ
 host_number word = option_map capped (number word)
-
--- the hosts whose numbers some words are, in order, if each of them is a number
-abbrev pub host_numbers : List (List ℕ) → Option (List ℕ)
-host_numbers words = each host_number words
 
 -- a number from 1
 abbrev pub from_one : ℕ → Option ℕ

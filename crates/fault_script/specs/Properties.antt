@@ -1,21 +1,15 @@
 -- Properties as words: a name and a value, apart or joined by `=`.
-use Rattle.std.specs.Prelude.{ℕ, ◌+◌, ◌==◌, Bool, if◌then◌else◌, List, [], ◌∷◌, take, drop, position, Option, Some, None, is_none, option_and_then}
-use Rattle.ft_base.specs.Text.{name_refusal}
+use Rattle.std.specs.Prelude.{ℕ, ◌+◌, ◌==◌, if◌then◌else◌, List, take, drop, position, Option, Some, None}
 use Rattle.property_manager.specs.declared.settings.Property.{Property}
-use Rattle.fault_script.specs.Words.{only}
+use Rattle.fault_script.specs.Words.{is_identifier}
 
--- the name of a property: 1 to 255 bytes, none of them 0
-abbrev pub is_property_name : List ℕ → Bool
-is_property_name word = is_none (name_refusal word)
+-- the property with this name and this value, each of any bytes
+abbrev pub property : List ℕ → List ℕ → Property
+property name value = record { name = name; value = record { 0 = value } }
 
--- the property with this name and this value, which is of any bytes
+-- the same, where its name is one
 abbrev pub property_of : List ℕ → List ℕ → Option Property
-property_of name value = if is_property_name name then Some (record { name = name; value = record { 0 = value } }) else None
-
--- `P V`
-abbrev pub property_said : List (List ℕ) → Option Property
-property_said [] = None
-property_said (name ∷ rest) = option_and_then (property_of name) (only rest)
+property_of name value = if is_identifier name then Some (property name value) else None
 
 -- the place of the first `=`
 abbrev pub equals_place : List ℕ → Option ℕ

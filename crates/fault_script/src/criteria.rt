@@ -1,15 +1,15 @@
-ghost use Rattle.std.specs.Prelude.{◌≡◌, ◌<◌, true, length, IfSome};
-ghost use Rattle.fault_script.specs.Words.{texts, each, is_script_name};
+ghost use Rattle.std.specs.Prelude.{◌≡◌, ◌<◌, length, IfSome};
+ghost use Rattle.fault_script.specs.Words.{texts, each};
 ghost use Rattle.fault_script.specs.Faults.{IsLeft};
 ghost use Rattle.fault_script.specs.Arguments.{IsFound};
 ghost use Rattle.fault_script.specs.Properties.{equals_place, criterion};
-ghost use Rattle.fault_script.specs.Forms.{created, create_line};
+ghost use Rattle.fault_script.specs.Grammar.{form};
+ghost use Rattle.fault_script.specs.Forms.{read_form};
+ghost use Rattle.fault_script.specs.declared.verbs.Verb.TheVariants as verbs;
 
-use crate::forms::find_kind;
-use crate::lines::{Criteria, KindWord, Line, LineFault};
-use crate::names::read_name;
+use crate::lines::{Criteria, Line, LineFault};
 use crate::settings::read_property;
-use crate::splitting::{is_script_name, split_first};
+use crate::steps::{take_kind, take_name};
 use property_manager::Property;
 use std::alloc::Global;
 
@@ -46,45 +46,21 @@ fn read_criteria(alloc: Global, words: &[&[u8]]) -> Result<Criteria, LineFault>
     Ok(Criteria::from_vec(properties))
 }
 
-fn create(
+/// `create G KIND P=V..`.
+pub(crate) fn read_create(
     alloc: Global,
-    name: &[u8],
-    kind: KindWord,
-    words: &[&[u8]],
+    mut words: &[&[u8]],
     line: &mut Line,
 ) -> Result<(), LineFault>
-    requires { is_script_name name.now ≡ true }
-    ensures { IsLeft result line.new (created name.now kind (each criterion (texts words.now))) }
+    ensures { IsLeft result line.new (read_form (form verbs.Create) (texts words.now)) }
 {
-    let criteria = match read_criteria(alloc, words) {
-        Ok(criteria) => criteria,
-        Err(fault) => return Err(fault),
-    };
-    let name = read_name(alloc, name)?;
+    let name = take_name(alloc, &mut words)?;
+    let kind = take_kind(&mut words)?;
+    let criteria = read_criteria(alloc, words)?;
     *line = Line::Create {
         name,
         kind,
         criteria,
     };
     Ok(())
-}
-
-/// `create G KIND P=V..`, from the words behind the first.
-pub(crate) fn read_create(alloc: Global, words: &[&[u8]], line: &mut Line) -> Result<(), LineFault>
-    ensures { IsLeft result line.new (create_line (texts words.now)) }
-{
-    let Some((name, rest)) = split_first(words) else {
-        return Err(LineFault::Syntax);
-    };
-    let Some((kind, rest)) = split_first(rest) else {
-        return Err(LineFault::Syntax);
-    };
-    let Some(kind) = find_kind(kind) else {
-        return Err(LineFault::Syntax);
-    };
-    if is_script_name(name) {
-        create(alloc, name, kind, rest, line)
-    } else {
-        Err(LineFault::Syntax)
-    }
 }

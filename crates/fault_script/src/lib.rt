@@ -15,15 +15,15 @@ mod arguments;
 mod criteria;
 mod forms;
 mod hexadecimal;
+mod keywords;
 mod lines;
-mod monitors;
 mod names;
 mod numerals;
 mod options;
 mod reading;
 mod settings;
 mod splitting;
-mod transfers;
+mod steps;
 mod verbs;
 
 pub use arguments::{CallWords, call_words};

@@ -232,7 +232,7 @@ pub enum LineFault {
     Limit(LimitName),
     /// It is a line of the language that isn't built yet.
     Later,
-    /// Want of memory.
+    /// Out of memory.
     NoMemory,
 }
 

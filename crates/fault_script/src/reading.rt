@@ -1,21 +1,18 @@
-ghost use Rattle.std.specs.Prelude.{◌≡◌, ℕ, ◌<◌, ◌≤◌, if◌then◌else◌, List, [], length, Some, None, Ok, Err, IfOk, IfSome};
+ghost use Rattle.std.specs.Prelude.{◌≡◌, ◌<◌, ◌≤◌, if◌then◌else◌, [], length, Some, None, Ok, Err, IfOk, IfSome};
 ghost use Rattle.fault_script.specs.Words.{words, texts};
 ghost use Rattle.fault_script.specs.Faults.{IsAnswer, IsLeft};
-ghost use Rattle.fault_script.specs.Forms.{line_of, form_of, as_some, parse_words, parse, IsSplit};
+ghost use Rattle.fault_script.specs.Forms.{form_of, as_some, parse_words, parse, IsSplit};
 ghost use Rattle.fault_script.specs.Grammar.{Spells};
 ghost use Rattle.fault_script.specs.declared.lines.Line.{Line};
 
 use crate::criteria::read_create;
 use crate::forms::{
-    read_bind, read_call, read_change, read_client, read_crash, read_delete, read_deliver,
-    read_group, read_grow, read_hosts, read_id, read_inject, read_locations, read_member, read_ref,
-    read_restart, read_show, read_tick, read_timeout,
+    read_bind, read_call, read_change, read_crash, read_deliver, read_group, read_grow, read_hosts,
+    read_inject, read_member, read_name_line, read_restart, read_subscribe, read_tick,
 };
 use crate::lines::{LimitName, Line, LineFault};
-use crate::monitors::{read_poll, read_pull, read_subscribe, read_sweep, read_unsubscribe};
 use crate::settings::{read_get, read_set, read_unset};
 use crate::splitting::{LineWords, is_comment, split_first, split_words};
-use crate::transfers::{read_checkpoint, read_update};
 use crate::verbs::{Verb, find_verb, is_unbuilt};
 use std::alloc::Global;
 
@@ -23,7 +20,7 @@ use std::alloc::Global;
 const LINE_LIMIT: usize = 4096;
 
 /// Reads the line of some words, and writes it at the place that is given. It is refused as `later` or `syntax`, for the
-/// first of these that applies; what the place then holds is not said.
+/// first of these that applies; what the place holds then is unspecified.
 // A line is large: each form writes it where the caller wants it, so that it is never moved.
 #[inline(never)]
 pub fn read_words(alloc: Global, words: &[&[u8]], line: &mut Line) -> Result<(), LineFault>
@@ -39,19 +36,14 @@ pub fn read_words(alloc: Global, words: &[&[u8]], line: &mut Line) -> Result<(),
         None => Err(LineFault::Syntax),
         Some(Verb::Hosts) => read_hosts(rest, line),
         Some(Verb::Group) => read_group(alloc, rest, line),
-        Some(Verb::Client) => read_client(alloc, rest, line),
         Some(Verb::Call) => read_call(alloc, rest, line),
         Some(Verb::Bind) => read_bind(alloc, rest, line),
-        Some(Verb::Timeout) => read_timeout(alloc, rest, line),
         Some(Verb::Deliver) => read_deliver(rest, line),
         Some(Verb::Tick) => read_tick(rest, line),
-        Some(Verb::Show) => read_show(alloc, rest, line),
-        Some(Verb::Locations) => read_locations(alloc, rest, line),
-        Some(Verb::Id) => read_id(alloc, rest, line),
-        Some(Verb::Ref) => read_ref(alloc, rest, line),
         Some(Verb::MemberRef) => read_member(alloc, rest, line),
         Some(Verb::Inject) => read_inject(alloc, rest, line),
         Some(Verb::Change(change)) => read_change(alloc, change, rest, line),
+        Some(Verb::Name(verb)) => read_name_line(alloc, verb, rest, line),
         Some(Verb::Crash) => read_crash(rest, line),
         Some(Verb::Restart) => read_restart(rest, line),
         Some(Verb::Create) => read_create(alloc, rest, line),
@@ -59,14 +51,7 @@ pub fn read_words(alloc: Global, words: &[&[u8]], line: &mut Line) -> Result<(),
         Some(Verb::Unset) => read_unset(alloc, rest, line),
         Some(Verb::Get) => read_get(alloc, rest, line),
         Some(Verb::Grow) => read_grow(alloc, rest, line),
-        Some(Verb::Delete) => read_delete(alloc, rest, line),
-        Some(Verb::Poll) => read_poll(alloc, rest, line),
-        Some(Verb::Sweep) => read_sweep(alloc, rest, line),
         Some(Verb::Subscribe) => read_subscribe(alloc, rest, line),
-        Some(Verb::Unsubscribe) => read_unsubscribe(alloc, rest, line),
-        Some(Verb::Pull) => read_pull(alloc, rest, line),
-        Some(Verb::Checkpoint) => read_checkpoint(alloc, rest, line),
-        Some(Verb::Update) => read_update(alloc, rest, line),
     }
 }
 

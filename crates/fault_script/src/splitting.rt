@@ -1,8 +1,7 @@
-ghost use Rattle.std.specs.Prelude.{◌≡◌, ℕ, ◌+◌, ◌<◌, ◌≤◌, ◌==◌, List, [], ◌∷◌, ◌++◌, length, slice_index, take, drop, filter, IfOk, IfSome, IsTrue, OnOk, MatchOption};
+ghost use Rattle.std.specs.Prelude.{◌≡◌, ◌+◌, ◌<◌, ◌==◌, [], ◌∷◌, ◌++◌, length, slice_index, take, drop, filter, IfSome, IsTrue, OnOk, MatchOption};
 ghost use Rattle.std.specs.List.{list_all, slice_split};
-ghost use Rattle.std.specs.Option.{option_copied};
 ghost use Rattle.memchr.specs.Find.{IsFirstByte};
-ghost use Rattle.fault_script.specs.Words.{is_blank, is_filled, words, is_comment, is_name_byte, is_script_name, texts, only};
+ghost use Rattle.fault_script.specs.Words.{is_blank, is_filled, words, is_comment, is_name_byte, is_script_name, texts};
 
 use ft_base::NoMemory;
 use memchr::memchr3;
@@ -14,7 +13,7 @@ const SCRIPT_NAME_LIMIT: usize = 64;
 /// As many words as most lines have at most.
 const FEW_WORDS: usize = 6;
 
-// Whether a word of one byte stands in front of a space.
+// Whether a word of one byte stands before a space.
 fn is_one_byte(line: &[u8]) -> bool
     ensures { IsTrue result → (1 < length line.now) × (32 < slice_index line.now 0) × (slice_index line.now 1 ≡ 32) }
 {
@@ -36,7 +35,7 @@ fn first_blank(line: &[u8]) -> Option<usize>
 // What stands before a place and what behind it.
 fn parted(line: &[u8], place: usize) -> (&[u8], &[u8])
     requires { place < length line.now }
-    ensures front { result.0.now ≡ take place line.now }
+    ensures before { result.0.now ≡ take place line.now }
     ensures behind { result.1.now ≡ drop (place + 1) line.now }
 {
     (&line[..place], &line[place + 1..])
@@ -118,16 +117,5 @@ pub(crate) fn split_first<'a, 'b>(words: &'b [&'a [u8]]) -> Option<(&'a [u8], &'
         None
     } else {
         Some((words[0], &words[1..]))
-    }
-}
-
-/// The one word of a list that has no other.
-pub(crate) fn only<'a>(words: &[&'a [u8]]) -> Option<&'a [u8]>
-    ensures { option_copied result ≡ only (texts words.now) }
-{
-    if words.len() == 1 {
-        Some(words[0])
-    } else {
-        None
     }
 }

@@ -1,28 +1,43 @@
-ghost use Rattle.std.specs.Prelude.{◌≡◌, ℕ, List};
+ghost use Rattle.std.specs.Prelude.{◌≡◌};
 ghost use Rattle.std.specs.List.{list_any};
 ghost use Rattle.std.specs.Str.{bytes_eq};
-ghost use Rattle.fault_script.specs.Forms.{change_of, watching, making, verb, is_unbuilt};
+ghost use Rattle.fault_script.specs.Parts.{by_word};
+ghost use Rattle.fault_script.specs.Grammar.{verb_word};
+ghost use Rattle.fault_script.specs.Forms.{change_verbs, fault_verbs, group_verbs, verb, is_unbuilt};
 
 use crate::lines::MemberChange;
+
+/// The first words of the lines that say nothing but a name behind it.
+#[derive(Clone, Copy, Debug, PartialEq, Eq)]
+pub(crate) enum NameVerb {
+    Client,
+    Timeout,
+    Show,
+    Locations,
+    Id,
+    Ref,
+    Delete,
+    Poll,
+    Sweep,
+    Unsubscribe,
+    Pull,
+    Checkpoint,
+    Update,
+}
 
 /// The first words of the lines that are built.
 #[derive(Clone, Copy, Debug, PartialEq, Eq)]
 pub(crate) enum Verb {
     Hosts,
     Group,
-    Client,
     Call,
     Bind,
-    Timeout,
     Deliver,
     Tick,
-    Show,
-    Locations,
-    Id,
-    Ref,
     MemberRef,
     Inject,
     Change(MemberChange),
+    Name(NameVerb),
     Crash,
     Restart,
     Create,
@@ -30,59 +45,51 @@ pub(crate) enum Verb {
     Unset,
     Get,
     Grow,
-    Delete,
-    Poll,
-    Sweep,
     Subscribe,
-    Unsubscribe,
-    Pull,
-    Checkpoint,
-    Update,
 }
 
-fn find_change(first: &[u8]) -> Option<MemberChange>
-    ensures { result ≡ change_of first.now }
+fn find_change_verb(first: &[u8]) -> Option<Verb>
+    ensures { result ≡ by_word verb_word change_verbs first.now }
 {
     if first == b"add".as_slice() {
-        Some(MemberChange::Add)
+        Some(Verb::Change(MemberChange::Add))
     } else if first == b"remove".as_slice() {
-        Some(MemberChange::Remove)
+        Some(Verb::Change(MemberChange::Remove))
     } else if first == b"primary".as_slice() {
-        Some(MemberChange::Primary)
+        Some(Verb::Change(MemberChange::Primary))
     } else if first == b"report".as_slice() {
-        Some(MemberChange::Report)
+        Some(Verb::Change(MemberChange::Report))
     } else {
         None
     }
 }
 
-/// The line about states, updates or faults, or of changes of members, that a first word begins.
-fn find_watching(first: &[u8]) -> Option<Verb>
-    ensures { result ≡ watching first.now }
+/// The line about faults, states and updates, or a change of members, that a first word begins.
+fn find_fault_verb(first: &[u8]) -> Option<Verb>
+    ensures { result ≡ by_word verb_word fault_verbs first.now }
 {
     if first == b"poll".as_slice() {
-        Some(Verb::Poll)
+        Some(Verb::Name(NameVerb::Poll))
     } else if first == b"sweep".as_slice() {
-        Some(Verb::Sweep)
+        Some(Verb::Name(NameVerb::Sweep))
     } else if first == b"subscribe".as_slice() {
         Some(Verb::Subscribe)
     } else if first == b"unsubscribe".as_slice() {
-        Some(Verb::Unsubscribe)
+        Some(Verb::Name(NameVerb::Unsubscribe))
     } else if first == b"pull".as_slice() {
-        Some(Verb::Pull)
+        Some(Verb::Name(NameVerb::Pull))
     } else if first == b"checkpoint".as_slice() {
-        Some(Verb::Checkpoint)
+        Some(Verb::Name(NameVerb::Checkpoint))
     } else if first == b"update".as_slice() {
-        Some(Verb::Update)
+        Some(Verb::Name(NameVerb::Update))
     } else {
-        find_change(first).map(Verb::Change)
+        find_change_verb(first)
     }
 }
 
-/// The line of groups by properties, about states, updates or faults, or of changes of members, that a first
-/// word begins.
-fn find_making(first: &[u8]) -> Option<Verb>
-    ensures { result ≡ making first.now }
+/// The line about groups and their properties, or one of those above, that a first word begins.
+fn find_group_verb(first: &[u8]) -> Option<Verb>
+    ensures { result ≡ by_word verb_word group_verbs first.now }
 {
     if first == b"create".as_slice() {
         Some(Verb::Create)
@@ -95,9 +102,9 @@ fn find_making(first: &[u8]) -> Option<Verb>
     } else if first == b"grow".as_slice() {
         Some(Verb::Grow)
     } else if first == b"delete".as_slice() {
-        Some(Verb::Delete)
+        Some(Verb::Name(NameVerb::Delete))
     } else {
-        find_watching(first)
+        find_fault_verb(first)
     }
 }
 
@@ -110,25 +117,25 @@ pub(crate) fn find_verb(first: &[u8]) -> Option<Verb>
     } else if first == b"group".as_slice() {
         Some(Verb::Group)
     } else if first == b"client".as_slice() {
-        Some(Verb::Client)
+        Some(Verb::Name(NameVerb::Client))
     } else if first == b"call".as_slice() {
         Some(Verb::Call)
     } else if first == b"bind".as_slice() {
         Some(Verb::Bind)
     } else if first == b"timeout".as_slice() {
-        Some(Verb::Timeout)
+        Some(Verb::Name(NameVerb::Timeout))
     } else if first == b"deliver".as_slice() {
         Some(Verb::Deliver)
     } else if first == b"tick".as_slice() {
         Some(Verb::Tick)
     } else if first == b"show".as_slice() {
-        Some(Verb::Show)
+        Some(Verb::Name(NameVerb::Show))
     } else if first == b"locations".as_slice() {
-        Some(Verb::Locations)
+        Some(Verb::Name(NameVerb::Locations))
     } else if first == b"id".as_slice() {
-        Some(Verb::Id)
+        Some(Verb::Name(NameVerb::Id))
     } else if first == b"ref".as_slice() {
-        Some(Verb::Ref)
+        Some(Verb::Name(NameVerb::Ref))
     } else if first == b"member".as_slice() {
         Some(Verb::MemberRef)
     } else if first == b"inject".as_slice() {
@@ -138,7 +145,7 @@ pub(crate) fn find_verb(first: &[u8]) -> Option<Verb>
     } else if first == b"restart".as_slice() {
         Some(Verb::Restart)
     } else {
-        find_making(first)
+        find_group_verb(first)
     }
 }
 

@@ -1,8 +1,8 @@
 use Rattle.std.proofs.Common.{◌≡◌, take, Some}
-use Rattle.fault_script.specs.Words.{texts}
-use Rattle.fault_script.specs.Numbers.{host_numbers}
+use Rattle.fault_script.specs.Words.{texts, each}
+use Rattle.fault_script.specs.Parts.{a_host, word_value}
 use Rattle.fault_script.proofs.forms.read_members.Given as goal
 
 -- the hosts so far
 abbrev pub invariant-loop-word : goal.invariant-loop-word
-invariant-loop-word l = host_numbers (texts (take l.word-index l.hosts)) ≡ Some l.numbers.items
+invariant-loop-word l = each (word_value a_host) (texts (take l.word-index l.hosts)) ≡ Some l.numbers.items
