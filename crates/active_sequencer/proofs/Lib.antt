@@ -1,4 +1,3 @@
 pub mod Running
 pub mod Orders
 pub mod Sends
-pub mod Trying

@@ -1,2 +1,1 @@
 pub mod Catching
-pub mod Trying

@@ -72,38 +72,11 @@ fn is_refused(read: Result<Filter, FilterFault>, place: u32) -> bool {
     }
 }
 
+// No text at all, and one with a zero byte.
 #[test]
 fn filters(rt: HostRuntime) -> Result<(), NoMemory> {
-    let alloc = rt.alloc();
-    let lets: [(&[u8], &[u8]); 8] = [
-        (b"-", b"\x01\x02\x03"),
-        (b"Location=h2", b"\x02"),
-        (b"Location=h002", b"\x02"),
-        (b"Location=h99", b""),
-        (b"TypeId=IDL:b", b"\x03"),
-        (b"ObjectGroupId=7", b"\x01\x02"),
-        (b"ObjectGroupId=18446744073709551616", b""),
-        (b"ObjectGroupId=7,TypeId=IDL:a,Location=h1", b"\x01"),
-    ];
-    for (text, hosts) in lets.as_slice() {
-        let mut notifier = Notifier::new(alloc);
-        let sub = connected(&mut notifier, text)?;
-        assert!(rt; pushed(alloc, &mut notifier)?);
-        assert!(rt; reads(&mut notifier, sub, hosts));
-    }
-    let refused: [(&[u8], u32); 10] = [
-        (b"", 0),
-        (b"-,-", 0),
-        (b"Location=h1,", 1),
-        (b"Location=h1,Location=h1", 1),
-        (b"Location=1", 0),
-        (b"Location=h", 0),
-        (b"TypeId=", 0),
-        (b"TypeId=a\0", 0),
-        (b"ObjectGroupId=123456789012345678901", 0),
-        (b"TypeId=a,ObjectGroupId=1,Host=h1,", 2),
-    ];
-    let notifier = Notifier::new(alloc);
+    let refused: [(&[u8], u32); 2] = [(b"", 0), (b"TypeId=a\0", 0)];
+    let notifier = Notifier::new(rt.alloc());
     for (text, place) in refused.as_slice() {
         assert!(rt; is_refused(notifier.create_filter(text), *place));
     }

@@ -17,11 +17,11 @@ use Rattle.group_hosts.specs.Hosts.{HostPicture, HostStands}
 
 -- ---- one event
 
-pub one_step : (m : Machine) (g : Group) (step : Step) → after_steps m g (step ∷ []) ≡ after_event m g step.event step.fails
+one_step : (m : Machine) (g : Group) (step : Step) → after_steps m g (step ∷ []) ≡ after_event m g step.event step.fails
 unfolding after_steps
 one_step m g step = refl
 
-pub one_agrees : (m : Machine) (g : Group) (step : Step) → Agrees m step.event g → AllAgree m g (step ∷ [])
+one_agrees : (m : Machine) (g : Group) (step : Step) → Agrees m step.event g → AllAgree m g (step ∷ [])
 unfolding AllAgree
 one_agrees m g step agrees = (agrees, tt)
 

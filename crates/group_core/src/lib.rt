@@ -3,16 +3,13 @@
 //! agrees with the plain group, the core stands for the plain group after it. (Chapter 23, Logging and
 //! Recovery Mechanisms.)
 //!
-//! A takeover, as the tests have it: the primary, host 0, has stopped behind the append of a deposit of 5. Each row has
-//! an event at the core, or a look at it, and what is told.
+//! A write fails, as the tests have it. Each row has an event at the core, or a look at it, and what is told.
 //!
 //! ```
-//! (Step::Report(0), ("view", 2, 1)),
-//! (Step::Hear(1, 2), ("known", 2, 0)),
-//! (Step::Ask(1, 1, KEY, 5, Stop::Never), ("older", 1, 2)),
-//! (Step::Ask(1, 2, KEY, 5, Stop::Never), ("repeat", 0, 5)),
-//! (Step::Look(0), ("down", 0, 0)),
-//! (Step::Look(1), ("at", 1, 5)),
+//! (Step::Fail, ("fail", 0, 0)),
+//! (Step::Ask(0, 1, 5), ("PERSIST_STORE maybe", 0, 1)),
+//! (Step::Ask(0, 1, 5), ("append", 0, 5)),
+//! (Step::Ask(0, 1, 5), ("repeat", 0, 5)),
 //! ```
 #![tactic(auto)]
 

@@ -1,9 +1,10 @@
-//! Rows of what happens to groups of two and of three members: an event each, and what is told of it.
+//! Groups whose logs fail, in rows of an event each and what is told of it; and arguments that no line of a script is
+//! long enough for.
 ghost use Rattle.std.specs.Prelude.{◌≡◌, ◌<◌, OnOk};
 ghost use Rattle.group_core.specs.Trying.{IsSome};
 
 use crate::trials::{Step, Told, Trial, ask, open, take};
-use ft_base::{NoMemory, Servant, Steps, Stop, Style};
+use ft_base::{NoMemory, Servant, Steps, Style};
 use shipped_servants::{Kind, Shipped};
 use std::alloc::Global;
 use std::marker::Brand;
@@ -18,8 +19,8 @@ fn run_rows<S: Servant + Drop, L: Ledger>(
     rows: &[(Step, Told)],
     steps: &mut Steps<L>,
 ) -> Result<(), NoMemory>
-    requires { IsSome S.machine trial.old.core trial.old.sent.items }
-    ensures { OnOk result (IsSome S.machine trial.new.core trial.new.sent.items) }
+    requires { IsSome S.machine trial.old.core }
+    ensures { OnOk result (IsSome S.machine trial.new.core) }
 {
     for (step, wanted) in rows {
         let told = take(alloc, trial, *step, steps)?;
@@ -29,144 +30,60 @@ fn run_rows<S: Servant + Drop, L: Ledger>(
     Ok(())
 }
 
-/// Takes them in a new group of this style.
+/// Takes them in a new group of this style, of whose log these writes fail.
 fn run_group<L: Ledger>(
     rt: &impl Abort,
     alloc: Global,
     style: Style,
+    fails: &[u64],
     rows: &[(Step, Told)],
     steps: &mut Steps<L>,
 ) -> Result<(), NoMemory> {
     let account = Shipped::open(alloc, Kind::Account)?;
-    let mut trial = open(alloc, account, style, &[])?;
+    let mut trial = open(alloc, account, style, fails)?;
     run_rows(rt, alloc, &mut trial, rows, steps)
 }
-
-const KEY: (i32, u64) = (1, 100);
-
-// The primary stops after its append; the second member takes over. The servant was called once.
-const TAKEN_OVER: [(Step, Told); 7] = [
-    (
-        Step::Ask(0, 1, KEY, 5, Stop::AfterAppend),
-        ("stopped", 0, 0),
-    ),
-    (Step::Report(0), ("view", 2, 1)),
-    (Step::Hear(1, 2), ("known", 2, 0)),
-    (Step::Ask(1, 1, KEY, 5, Stop::Never), ("older", 1, 2)),
-    (Step::Ask(1, 2, KEY, 5, Stop::Never), ("repeat", 0, 5)),
-    (Step::Look(0), ("down", 0, 0)),
-    (Step::Look(1), ("at", 1, 5)),
-];
-
-// So it is after the servant ran it.
-const RUN_AGAIN: [(Step, Told); 4] = [
-    (
-        Step::Ask(0, 1, KEY, 5, Stop::AfterExecute),
-        ("stopped", 0, 0),
-    ),
-    (Step::Report(0), ("view", 2, 1)),
-    (Step::Ask(1, 2, KEY, 5, Stop::Never), ("repeat", 0, 5)),
-    (Step::Look(1), ("at", 1, 5)),
-];
-
-// The primary is reported though it is up. It runs nothing, and learns of the new view.
-const DEPOSED: [(Step, Told); 6] = [
-    (Step::Report(0), ("view", 2, 1)),
-    (Step::Ask(0, 0, KEY, 5, Stop::Never), ("deposed", 1, 2)),
-    (Step::Ask(0, 1, (2, 100), 7, Stop::Never), ("older", 1, 2)),
-    (Step::Look(1), ("blank", 0, 0)),
-    (Step::Look(0), ("at", 0, 0)),
-    (Step::Knows(0), ("knows", 2, 0)),
-];
-
-// The new primary learns of the new view by the request.
-const TOLD_BY_A_REQUEST: [(Step, Told); 3] = [
-    (Step::Report(0), ("view", 2, 1)),
-    (Step::Knows(1), ("knows", 1, 0)),
-    (Step::Ask(1, 2, KEY, 5, Stop::Never), ("append", 0, 5)),
-];
-
-// The log's time outlives the hosts' clocks.
-const EXPIRED: [(Step, Told); 6] = [
-    (Step::Ask(0, 1, (1, 90), 5, Stop::Never), ("append", 0, 5)),
-    (Step::Checkpoint(100), ("taken", 0, 1)),
-    (Step::Crash(0), ("down", 0, 0)),
-    (Step::Crash(1), ("down", 0, 0)),
-    (Step::Restart(0), ("up", 0, 0)),
-    (
-        Step::Ask(0, 1, (1, 90), 5, Stop::Never),
-        ("expired", 90, 100),
-    ),
-];
-
-// All members leave, and one comes back.
-const LEFT: [(Step, Told); 8] = [
-    (Step::Ask(0, 1, KEY, 5, Stop::Never), ("append", 0, 5)),
-    (Step::Report(0), ("view", 2, 1)),
-    (Step::Report(1), ("view", 3, 0)),
-    (Step::Ask(0, 1, (2, 100), 7, Stop::Never), ("empty", 3, 0)),
-    (Step::Add(1), ("view", 4, 1)),
-    (Step::Hear(1, 4), ("known", 4, 0)),
-    (Step::Ask(1, 1, (2, 100), 7, Stop::Never), ("older", 1, 4)),
-    (Step::Ask(1, 4, (2, 100), 7, Stop::Never), ("append", 1, 12)),
-];
-
-// The second member begins at the checkpoint.
-const FROM_A_CHECKPOINT: [(Step, Told); 8] = [
-    (Step::Ask(0, 1, KEY, 5, Stop::Never), ("append", 0, 5)),
-    (Step::Checkpoint(0), ("taken", 0, 1)),
-    (Step::Ask(0, 1, (2, 100), 6, Stop::Never), ("append", 1, 11)),
-    (Step::Ask(0, 1, (3, 100), 7, Stop::Never), ("append", 2, 18)),
-    (Step::Crash(0), ("down", 0, 0)),
-    (Step::Report(0), ("view", 2, 1)),
-    (Step::Ask(1, 2, (4, 100), 0, Stop::Never), ("append", 3, 18)),
-    (Step::Look(1), ("at", 4, 18)),
-];
 
 // A write fails. The retry is accepted, once; and so it is with a checkpoint.
 const WRITTEN_LATE: [(Step, Told); 8] = [
     (Step::Fail, ("fail", 0, 0)),
-    (Step::Ask(0, 1, KEY, 5, Stop::Never), ("logfault", 0, 0)),
-    (Step::Ask(0, 1, KEY, 5, Stop::Never), ("append", 0, 5)),
-    (Step::Ask(0, 1, KEY, 5, Stop::Never), ("repeat", 0, 5)),
+    (Step::Ask(0, 1, 5), ("PERSIST_STORE maybe", 0, 1)),
+    (Step::Ask(0, 1, 5), ("append", 0, 5)),
+    (Step::Ask(0, 1, 5), ("repeat", 0, 5)),
     (Step::Fail, ("fail", 0, 0)),
-    (Step::Checkpoint(0), ("logfault", 0, 0)),
-    (Step::Checkpoint(0), ("taken", 0, 1)),
+    (Step::Checkpoint, ("logfault", 0, 0)),
+    (Step::Checkpoint, ("taken", 0, 1)),
     (Step::Look(0), ("at", 1, 5)),
 ];
 
-// The first update is lost, so the second one is ignored. The checkpoint's state brings the member on, and what
-// comes after it changes nothing; the next update leads on from there.
-const BROUGHT_ON: [(Step, Told); 15] = [
-    (Step::Ask(0, 1, KEY, 5, Stop::Never), ("append", 0, 5)),
-    (Step::SendUpdate, ("taken", 0, 1)),
-    (Step::Ask(0, 1, (2, 100), 6, Stop::Never), ("append", 1, 11)),
-    (Step::SendUpdate, ("taken", 1, 2)),
-    (Step::Bring(3, 0), ("another update", 1, 0)),
-    (Step::Checkpoint(0), ("taken", 2, 2)),
-    (Step::Look(0), ("at", 2, 11)),
-    (Step::Look(1), ("at", 0, 0)),
-    (Step::Bring(5, 0), ("applied", 2, 0)),
-    (Step::Bring(1, 0), ("another update", 0, 2)),
-    (Step::Bring(5, 0), ("old state", 2, 2)),
-    (Step::Ask(0, 1, (3, 100), 7, Stop::Never), ("append", 2, 18)),
-    (Step::SendUpdate, ("taken", 2, 3)),
-    (Step::Bring(10, 0), ("applied", 3, 0)),
-    (Step::Look(1), ("at", 3, 18)),
+// Of an active group: the orders go to the three other members where the write succeeds, and to nobody where it fails.
+const ORDERED_LATE: [(Step, Told); 7] = [
+    (Step::Ask(1, 1, 1), ("append", 0, 1)),
+    (Step::Sent, ("order", 3, 0)),
+    (Step::Fail, ("fail", 0, 0)),
+    (Step::Ask(1, 0, 0), ("PERSIST_STORE maybe", 0, 1)),
+    (Step::Sent, ("nothing", 0, 0)),
+    (Step::Ask(1, 0, 0), ("append", 1, 1)),
+    (Step::Sent, ("order", 3, 1)),
 ];
 
-// Orders come late, twice and in another order than they were sent in: each is run once, in the journal's order.
-const ORDERED: [(Step, Told); 10] = [
-    (Step::Ask(0, 1, KEY, 5, Stop::Never), ("append", 0, 5)),
-    (Step::Ask(1, 1, (2, 100), 6, Stop::Never), ("append", 1, 11)),
-    (Step::Bring(1, 1), ("held", 0, 0)),
-    (Step::Bring(1, 1), ("held", 0, 0)),
-    (Step::Look(2), ("at", 0, 0)),
-    (Step::Bring(0, 1), ("applied", 2, 0)),
-    (Step::Bring(0, 1), ("old order", 0, 2)),
-    (Step::Bring(0, 0), ("old order", 0, 2)),
-    (Step::Bring(1, 0), ("applied", 2, 0)),
-    (Step::Look(2), ("at", 2, 11)),
+// The first write is the first view's, the second the entry's. The third is the checkpoint's: where it fails there is
+// none, and nothing is given.
+const NO_CHECKPOINT: [(Step, Told); 5] = [
+    (Step::Ask(0, 0, 5), ("append", 0, 5)),
+    (Step::Checkpoint, ("logfault", 0, 0)),
+    (Step::Sent, ("nothing", 0, 0)),
+    (Step::Mark, ("mark", 0, 0)),
+    (Step::SendUpdate, ("taken", 0, 1)),
+];
+
+// The fourth is the view's behind it, and the fifth the cut: where one of these fails the checkpoint counts.
+const CHECKPOINT: [(Step, Told); 5] = [
+    (Step::Ask(0, 0, 5), ("append", 0, 5)),
+    (Step::Checkpoint, ("taken", 0, 1)),
+    (Step::Sent, ("state", 3, 5)),
+    (Step::Mark, ("mark", 1, 0)),
+    (Step::SendUpdate, ("taken", 1, 1)),
 ];
 
 fn each_row<L: Ledger>(rt: &impl Abort, alloc: Global, blank: Blank) -> Result<(), NoMemory>
@@ -175,16 +92,11 @@ fn each_row<L: Ledger>(rt: &impl Abort, alloc: Global, blank: Blank) -> Result<(
     requires some { 0 < blank.parts }
 {
     let mut steps = Steps::<L>::new(blank);
-    run_group(rt, alloc, Style::Cold, &TAKEN_OVER, &mut steps)?;
-    run_group(rt, alloc, Style::Cold, &RUN_AGAIN, &mut steps)?;
-    run_group(rt, alloc, Style::Cold, &DEPOSED, &mut steps)?;
-    run_group(rt, alloc, Style::Cold, &TOLD_BY_A_REQUEST, &mut steps)?;
-    run_group(rt, alloc, Style::Cold, &EXPIRED, &mut steps)?;
-    run_group(rt, alloc, Style::Cold, &LEFT, &mut steps)?;
-    run_group(rt, alloc, Style::Cold, &FROM_A_CHECKPOINT, &mut steps)?;
-    run_group(rt, alloc, Style::Cold, &WRITTEN_LATE, &mut steps)?;
-    run_group(rt, alloc, Style::Warm, &BROUGHT_ON, &mut steps)?;
-    run_group(rt, alloc, Style::Active, &ORDERED, &mut steps)
+    run_group(rt, alloc, Style::Cold, &[], &WRITTEN_LATE, &mut steps)?;
+    run_group(rt, alloc, Style::Active, &[], &ORDERED_LATE, &mut steps)?;
+    run_group(rt, alloc, Style::Warm, &[3], &NO_CHECKPOINT, &mut steps)?;
+    run_group(rt, alloc, Style::Warm, &[4], &CHECKPOINT, &mut steps)?;
+    run_group(rt, alloc, Style::Warm, &[5], &CHECKPOINT, &mut steps)
 }
 
 #[test]
@@ -200,13 +112,13 @@ fn insist<S: Servant + Drop, L: Ledger>(
     amount: u8,
     steps: &mut Steps<L>,
 ) -> Result<Told, NoMemory>
-    requires { IsSome S.machine trial.old.core trial.old.sent.items }
-    ensures { OnOk result (IsSome S.machine trial.new.core trial.new.sent.items) }
+    requires { IsSome S.machine trial.old.core }
+    ensures { OnOk result (IsSome S.machine trial.new.core) }
 {
-    let step = Step::Ask(0, 1, (id, 100), amount, Stop::Never);
+    let step = Step::Ask(0, id, amount);
     let told = take(alloc, trial, step, steps)?;
     let (word, _first, _second) = told;
-    if word == "logfault" {
+    if word == "PERSIST_STORE maybe" {
         return take(alloc, trial, step, steps);
     }
     Ok(told)
@@ -270,12 +182,11 @@ fn get<S: Servant + Drop, L: Ledger>(
     steps: &mut Steps<L>,
 ) -> Result<Told, NoMemory>
     requires count { count < 8192 }
-    requires some { IsSome S.machine trial.old.core trial.old.sent.items }
-    ensures { OnOk result (IsSome S.machine trial.new.core trial.new.sent.items) }
+    requires some { IsSome S.machine trial.old.core }
+    ensures { OnOk result (IsSome S.machine trial.new.core) }
 {
     let body = body_of_get(alloc, count)?;
-    let asker = (1, count as i32, 100);
-    ask(alloc, trial, 0, asker, "get", &body, Stop::Never, steps)
+    ask(alloc, trial, 0, count as i32, "get", &body, steps)
 }
 
 fn get_both<L: Ledger>(rt: &impl Abort, alloc: Global, blank: Blank) -> Result<(), NoMemory>
@@ -289,7 +200,7 @@ fn get_both<L: Ledger>(rt: &impl Abort, alloc: Global, blank: Blank) -> Result<(
     let longest = get(alloc, &mut trial, 4091, &mut steps)?;
     assert!(rt; longest == ("BadKey", 0, 0), "the longest key");
     let longer = get(alloc, &mut trial, 4092, &mut steps)?;
-    assert!(rt; longer == ("long", 4097, 0), "a longer one");
+    assert!(rt; longer == ("long", 4097, 1), "a longer one");
     Ok(())
 }
 

@@ -1,69 +1,59 @@
-//! A group in the tests: its core, what was sent in it, and what is told of its events.
-ghost use Rattle.std.specs.Prelude.{◌≡◌, ◌<◌, ◌∷◌, [], Some, false, length, slice_get, IfOk, OnOk};
+//! A group in the tests: its core, what its last event sent, and what is told of its events.
+ghost use Rattle.std.specs.Prelude.{◌≡◌, ◌<◌, ◌∷◌, [], false, IfOk, OnOk};
 ghost use Rattle.std.specs.List.{AllByRecursion};
 ghost use Rattle.ft_base.specs.Members.{AreDifferent};
 ghost use Rattle.ft_base.specs.declared.limits.TheConstants.{HOST_LIMIT};
-ghost use Rattle.group_model.specs.Sending.{brought, sent_by};
 ghost use Rattle.group_model.specs.Views.{is_passive, is_warm};
 ghost use Rattle.group_core.specs.Running.{is_short};
-ghost use Rattle.group_core.specs.Trying.{IsSome, MayCome, WasSent};
+ghost use Rattle.group_core.specs.Trying.{IsSome, MayCome};
 
 use crate::GroupCore;
 use cdr_codec::{Order, Raw};
 use ft_base::{
-    Bytes, Decision, GroupId, HostNo, Ignored, Key, Members, Name, NoMemory, Outcome, Retention,
-    Servant, Steps, Stop, Style, Tick, Version,
+    Bytes, Decision, GroupId, HostNo, Key, Members, Name, NoMemory, Outcome, Retention, Servant,
+    Steps, Stop, Style, Tick, Version,
 };
 use ft_outside::MemKeeper;
-use group_model::{
-    Asked, Change, Event, GroupAnswer, Inner, Out, OutList, agreement_lasts, groups_grow,
-    what_is_sent_agrees,
-};
+use group_model::{Asked, Event, GroupAnswer, Inner, Out, OutList};
 use group_stands::{logs_go_on, logs_tell};
 use std::alloc::Global;
 use std::sync::ledger::Ledger;
-use sys_faults::Answer;
+use sys_faults::{Answer, Completed, SysKind};
 
-/// A group's core, and what each of its events sent.
+/// A group's core, and what its last event sent.
 #[derive(Drop)]
 pub struct Trial<S: Servant> {
     pub core: GroupCore<S, MemKeeper>,
-    pub sent: Vec<OutList>,
+    pub sent: OutList,
 }
 
 /// What happens, or what is looked at.
 #[derive(Clone, Copy)]
 pub enum Step {
-    /// ann asks a host: the version that she knows, or 0; the retention id and the expiration of her key;
-    /// what she deposits, or 0 for the balance; where the host stops.
-    Ask(u8, u32, (i32, u64), u8, Stop),
-    /// A host hears of a view.
-    Hear(u8, u32),
-    Crash(u8),
-    Restart(u8),
+    /// ann asks a host: the retention id of her key, or 0 for none; what she deposits, or 0 for the balance.
+    Ask(u8, i32, u8),
     /// The primary takes a checkpoint.
-    Checkpoint(u64),
+    Checkpoint,
     /// The primary sends an update.
     SendUpdate,
-    /// What the event of this number sent comes to its host: that at this place.
-    Bring(u8, u8),
-    Report(u8),
-    Add(u8),
     /// The log's next write fails.
     Fail,
     /// The position and the balance of a host.
     Look(u8),
-    /// The version that a host knows.
-    Knows(u8),
+    /// How many entries the newest checkpoint covers.
+    Mark,
+    /// What the last event sent: how many messages, and a number that is the same in each.
+    Sent,
 }
 
 // what is told: a word, and two numbers that go with it
 pub type Told = (&'static str, u64, u64);
 
-/// The last byte of a value, or 0.
+/// The last byte of a value, or the minor code of a system exception.
 fn worth(answer: &Answer) -> u64 {
     match answer {
         Answer::Done(Outcome::Value(value)) => last_of(value.bytes()),
+        Answer::System(fault) => u64::from(fault.minor),
         _ => 0,
     }
 }
@@ -75,30 +65,24 @@ fn last_of(bytes: &[u8]) -> u64 {
     }
 }
 
-/// The user exception that is answered.
+/// The exception that is answered, of those in these tests, and of the system's whether it leaves open what was done.
 fn thrown(answer: &Answer) -> Option<&'static str> {
-    let Answer::Done(Outcome::User(name)) = answer else {
-        return None;
-    };
-    if name.bytes() == b"BadKey".as_slice() {
-        return Some("BadKey");
+    match answer {
+        Answer::Done(Outcome::User(name)) if name.bytes() == b"BadKey".as_slice() => Some("BadKey"),
+        Answer::System(fault)
+            if matches!(fault.kind, SysKind::PersistStore) && fault.completed == Completed::Maybe =>
+            { Some("PERSIST_STORE maybe") }
+        _ => None,
     }
-    Some("another exception")
 }
 
 fn decided(decision: Decision, value: u64) -> Told {
     match decision {
         Decision::Append(at) => ("append", u64::from(at), value),
         Decision::Repeat(at) => ("repeat", u64::from(at), value),
-        Decision::Expired { expiration, now } => ("expired", expiration.0, now.0),
-        Decision::Older { asked, known } => ("older", u64::from(asked.0), u64::from(known.0)),
-        Decision::Deposed { known, newest } => {
-            ("deposed", u64::from(known.0), u64::from(newest.0))
-        }
-        Decision::Empty(version) => ("empty", u64::from(version.0), 0),
-        Decision::Long(count) => ("long", u64::from(count), 0),
-        Decision::LogFault => ("logfault", 0, 0),
-        _ => ("refused", 0, 0),
+        Decision::Long(count) => ("long", u64::from(count), value),
+        Decision::LogFault => ("logfault", 0, value),
+        _ => ("refused", 0, value),
     }
 }
 
@@ -117,16 +101,6 @@ fn answered(decision: Decision, answer: &Answer) -> Told {
     }
 }
 
-fn ignored(cause: Ignored) -> Told {
-    match cause {
-        Ignored::NotLoaded => ("not loaded", 0, 0),
-        Ignored::Position { sent, at } => ("old state", u64::from(sent), u64::from(at)),
-        Ignored::From { from, at } => ("another update", u64::from(from), u64::from(at)),
-        Ignored::Order { index, at } => ("old order", u64::from(index), u64::from(at)),
-        Ignored::Known { sent, known } => ("old view", u64::from(sent.0), u64::from(known.0)),
-    }
-}
-
 /// What is told of an event.
 fn told(answer: &GroupAnswer) -> Told {
     match answer {
@@ -135,68 +109,63 @@ fn told(answer: &GroupAnswer) -> Told {
             answer,
             ..
         } => reply_told(*decision, answer),
-        GroupAnswer::Known(version) => ("known", u64::from(version.0), 0),
-        GroupAnswer::Applied(position) => ("applied", u64::from(*position), 0),
-        GroupAnswer::Held(position) => ("held", u64::from(*position), 0),
-        GroupAnswer::Ignored(cause) => ignored(*cause),
         GroupAnswer::Taken { from, position, .. } => {
             ("taken", u64::from(*from), u64::from(*position))
         }
-        GroupAnswer::Changed { view, .. } => {
-            ("view", u64::from(view.version.0), view.members.len() as u64)
-        }
         GroupAnswer::LogFault => ("logfault", 0, 0),
-        GroupAnswer::Down => ("down", 0, 0),
-        GroupAnswer::Up => ("up", 0, 0),
         _ => ("other", 0, 0),
     }
 }
 
-fn two() -> Members
-    ensures { result ≡ 0 ∷ 1 ∷ [] }
+/// A word for what is sent, and the last byte of a state, or the number of what else it is.
+fn carried(out: &Out) -> (&'static str, u64) {
+    match &out.carried {
+        Inner::State { state, .. } => ("state", last_of(state.bytes())),
+        Inner::Update { to, .. } => ("update", u64::from(*to)),
+        Inner::Order { index, .. } => ("order", u64::from(*index)),
+        Inner::View { version } => ("view", u64::from(version.0)),
+    }
+}
+
+/// What was sent, where it is the same to each host.
+fn sent_told(out: &OutList) -> Told {
+    let out = out.as_slice();
+    let [first, ..] = out else {
+        return ("nothing", 0, 0);
+    };
+    if out.iter().any(|other| carried(other) != carried(first)) {
+        return ("different", 0, 0);
+    }
+    let (word, number) = carried(first);
+    (word, out.len() as u64, number)
+}
+
+fn four() -> Members
+    ensures { result ≡ 0 ∷ 1 ∷ 2 ∷ 3 ∷ [] }
 {
     let mut members = Members::new();
     members.join(HostNo(0));
     members.join(HostNo(1));
-    members
-}
-
-fn three() -> Members
-    ensures { result ≡ 0 ∷ 1 ∷ 2 ∷ [] }
-{
-    let mut members = two();
     members.join(HostNo(2));
+    members.join(HostNo(3));
     members
 }
 
-/// Two members, or three of an active group.
-#[tactic(auto, using(crate::proofs::Trying::two_there, crate::proofs::Trying::three_there))]
-fn members_of(style: Style) -> Members
-    ensures hosts { AllByRecursion (λ host. host < HOST_LIMIT) result }
-    ensures different { AreDifferent result }
-{
-    match style {
-        Style::Active => three(),
-        Style::Cold | Style::Warm => two(),
-    }
-}
-
-/// A new group, of whose log these writes fail.
-#[tactic(auto, using(crate::proofs::Trying::opened))]
+/// A new group of four members, of whose log these writes fail.
+#[tactic(auto, using(crate::proofs::Trying::opened, crate::proofs::Trying::four_there))]
 pub fn open<S: Servant + Drop>(
     alloc: Global,
     opening: S,
     style: Style,
     fails: &[u64],
 ) -> Result<Trial<S>, NoMemory>
-    ensures { IfOk result (λ trial. IsSome S.machine trial.core trial.sent.items) }
+    ensures { IfOk result (λ trial. IsSome S.machine trial.core) }
 {
     let keeper = MemKeeper::new(alloc, fails)?;
-    let members = members_of(style);
-    match GroupCore::new(alloc, GroupId(1), style, opening, members, keeper) {
+    match GroupCore::new(alloc, GroupId(1), style, opening, four(), keeper) {
         Ok(core) => Ok(Trial {
             core,
-            sent: Vec::new(alloc),
+            sent: OutList::new(alloc),
         }),
         Err(_) => Err(NoMemory),
     }
@@ -204,7 +173,7 @@ pub fn open<S: Servant + Drop>(
 
 /// What an event sent; none where memory was wanted.
 fn sent_by(alloc: Global, answer: GroupAnswer) -> Result<OutList, NoMemory>
-    ensures { IfOk result (λ out. (is_short answer ≡ false) × (out ≡ sent_by answer)) }
+    ensures { IfOk result (λ out. is_short answer ≡ false) }
 {
     match answer {
         GroupAnswer::Reply {
@@ -217,7 +186,6 @@ fn sent_by(alloc: Global, answer: GroupAnswer) -> Result<OutList, NoMemory>
             position: _position,
             out,
         } => Ok(out),
-        GroupAnswer::Changed { view: _view, out } => Ok(out),
         GroupAnswer::NoMemory => Err(NoMemory),
         _other => Ok(OutList::new(alloc)),
     }
@@ -230,17 +198,13 @@ fn act<S: Servant + Drop, L: Ledger>(
     event: Event,
     steps: &mut Steps<L>,
 ) -> Result<Told, NoMemory>
-    requires some { IsSome S.machine trial.old.core trial.old.sent.items }
-    requires may { MayCome S.machine trial.old.core trial.old.sent.items event }
-    ensures { OnOk result (IsSome S.machine trial.new.core trial.new.sent.items) }
+    requires some { IsSome S.machine trial.old.core }
+    requires may { MayCome S.machine trial.old.core event }
+    ensures { OnOk result (IsSome S.machine trial.new.core) }
 {
-    groups_grow();
-    agreement_lasts();
-    what_is_sent_agrees();
     let answer = trial.core.act(alloc, event, steps);
     let told = told(&answer);
-    let out = sent_by(alloc, answer)?;
-    trial.sent.push(out)?;
+    trial.sent = sent_by(alloc, answer)?;
     Ok(told)
 }
 
@@ -251,13 +215,16 @@ fn are_bytes(text: &[u8])
     let _text = text;
 }
 
-/// A key of ann's.
-fn key_of(alloc: Global, id: i32, until: u64) -> Result<Option<Key>, NoMemory> {
+/// A key of ann's, or none for the id 0.
+fn key_of(alloc: Global, id: i32) -> Result<Option<Key>, NoMemory> {
+    if id == 0 {
+        return Ok(None);
+    }
     match Name::of(alloc, b"ann") {
         Ok(client) => Ok(Some(Key {
             client,
             retention: Retention(id),
-            expiration: Tick(until),
+            expiration: Tick(100),
         })),
         Err(_) => Err(NoMemory),
     }
@@ -273,39 +240,29 @@ fn name_of(alloc: Global, op: &'static str) -> Result<Name, NoMemory> {
     }
 }
 
-fn version_of(version: u32) -> Option<Version> {
-    if version == 0 {
-        None
-    } else {
-        Some(Version(version))
-    }
-}
-
 /// ann asks a host.
 #[tactic(auto, using(crate::proofs::Trying::may_ask))]
 pub fn ask<S: Servant + Drop, L: Ledger>(
     alloc: Global,
     trial: &mut Trial<S>,
     host: u8,
-    asker: (u32, i32, u64),
+    id: i32,
     op: &'static str,
     body: &[u8],
-    stop: Stop,
     steps: &mut Steps<L>,
 ) -> Result<Told, NoMemory>
-    requires { IsSome S.machine trial.old.core trial.old.sent.items }
-    ensures { OnOk result (IsSome S.machine trial.new.core trial.new.sent.items) }
+    requires { IsSome S.machine trial.old.core }
+    ensures { OnOk result (IsSome S.machine trial.new.core) }
 {
-    let (version, id, until) = asker;
     if host >= 64 || body.len() > 8192 {
         return Err(NoMemory);
     }
-    let key = key_of(alloc, id, until)?;
+    let key = key_of(alloc, id)?;
     let op = name_of(alloc, op)?;
     are_bytes(body);
     let bytes = Bytes::of(alloc, body)?;
     let asked = Asked {
-        version: version_of(version),
+        version: Some(Version(1)),
         key,
         bad_context: None,
         op: Some(op),
@@ -319,30 +276,7 @@ pub fn ask<S: Servant + Drop, L: Ledger>(
         host: HostNo(host),
         clock: Tick(0),
         asked,
-        stop,
-    };
-    act(alloc, trial, event, steps)
-}
-
-/// A host hears of a view that there has been.
-#[tactic(auto, using(crate::proofs::Trying::may_hear))]
-fn hear<S: Servant + Drop, L: Ledger>(
-    alloc: Global,
-    trial: &mut Trial<S>,
-    host: u8,
-    version: u32,
-    steps: &mut Steps<L>,
-) -> Result<Told, NoMemory>
-    requires { IsSome S.machine trial.old.core trial.old.sent.items }
-    ensures { OnOk result (IsSome S.machine trial.new.core trial.new.sent.items) }
-{
-    logs_tell();
-    if host >= 64 || version == 0 || version > trial.core.log().newest().version.0 {
-        return Err(NoMemory);
-    }
-    let event = Event::View {
-        host: HostNo(host),
-        version: Version(version),
+        stop: Stop::Never,
     };
     act(alloc, trial, event, steps)
 }
@@ -361,11 +295,10 @@ fn is_passive(style: Style) -> bool
 fn checkpoint<S: Servant + Drop, L: Ledger>(
     alloc: Global,
     trial: &mut Trial<S>,
-    clock: u64,
     steps: &mut Steps<L>,
 ) -> Result<Told, NoMemory>
-    requires { IsSome S.machine trial.old.core trial.old.sent.items }
-    ensures { OnOk result (IsSome S.machine trial.new.core trial.new.sent.items) }
+    requires { IsSome S.machine trial.old.core }
+    ensures { OnOk result (IsSome S.machine trial.new.core) }
 {
     logs_tell();
     let Some(host) = trial.core.log().newest().primary else {
@@ -376,7 +309,7 @@ fn checkpoint<S: Servant + Drop, L: Ledger>(
     }
     let event = Event::Checkpoint {
         host,
-        clock: Tick(clock),
+        clock: Tick(0),
     };
     act(alloc, trial, event, steps)
 }
@@ -397,8 +330,8 @@ fn send_update<S: Servant + Drop, L: Ledger>(
     trial: &mut Trial<S>,
     steps: &mut Steps<L>,
 ) -> Result<Told, NoMemory>
-    requires { IsSome S.machine trial.old.core trial.old.sent.items }
-    ensures { OnOk result (IsSome S.machine trial.new.core trial.new.sent.items) }
+    requires { IsSome S.machine trial.old.core }
+    ensures { OnOk result (IsSome S.machine trial.new.core) }
 {
     logs_tell();
     let Some(host) = trial.core.log().newest().primary else {
@@ -410,156 +343,12 @@ fn send_update<S: Servant + Drop, L: Ledger>(
     act(alloc, trial, Event::SendUpdate(host), steps)
 }
 
-/// The event that this is where it arrives.
-fn arriving(alloc: Global, out: &Out) -> Result<Event, NoMemory>
-    ensures { IfOk result (λ event. event ≡ brought out.now) }
-{
-    let host = out.to;
-    match &out.carried {
-        Inner::View { version } => Ok(Event::View {
-            host,
-            version: *version,
-        }),
-        Inner::State { position, state } => {
-            let state = state.copy(alloc)?;
-            Ok(Event::State {
-                host,
-                position: *position,
-                state,
-            })
-        }
-        Inner::Update { from, to, update } => {
-            let update = update.copy(alloc)?;
-            Ok(Event::Update {
-                host,
-                from: *from,
-                to: *to,
-                update,
-            })
-        }
-        Inner::Order { index, request } => {
-            let request = request.copy(alloc)?;
-            Ok(Event::Order {
-                host,
-                index: *index,
-                request,
-            })
-        }
-    }
-}
-
-fn list_at(sent: &[OutList], at: usize) -> &OutList
-    requires { at < length sent.now }
-    ensures { slice_get sent.now at ≡ Some result.now }
-{
-    &sent[at]
-}
-
-fn out_at(out: &[Out], at: usize) -> &Out
-    requires { at < length out.now }
-    ensures { slice_get out.now at ≡ Some result.now }
-{
-    &out[at]
-}
-
-/// What the event of this number sent at this place, as it arrives.
-#[tactic(auto, using(crate::proofs::Trying::was_sent))]
-fn sent_at(alloc: Global, sent: &[OutList], number: usize, place: usize) -> Result<Event, NoMemory>
-    ensures { IfOk result (λ event. WasSent sent.now event) }
-{
-    if number >= sent.len() {
-        return Err(NoMemory);
-    }
-    let list = list_at(sent, number).as_slice();
-    if place >= list.len() {
-        return Err(NoMemory);
-    }
-    arriving(alloc, out_at(list, place))
-}
-
-/// What was sent comes to its host.
-#[tactic(auto, using(crate::proofs::Trying::may_bring))]
-fn bring<S: Servant + Drop, L: Ledger>(
-    alloc: Global,
-    trial: &mut Trial<S>,
-    number: u8,
-    place: u8,
-    steps: &mut Steps<L>,
-) -> Result<Told, NoMemory>
-    requires { IsSome S.machine trial.old.core trial.old.sent.items }
-    ensures { OnOk result (IsSome S.machine trial.new.core trial.new.sent.items) }
-{
-    let sent = trial.sent.as_slice();
-    let event = sent_at(alloc, sent, usize::from(number), usize::from(place))?;
-    act(alloc, trial, event, steps)
-}
-
-/// A host stops.
-#[tactic(auto, using(crate::proofs::Trying::may_crash))]
-fn crash<S: Servant + Drop, L: Ledger>(
-    alloc: Global,
-    trial: &mut Trial<S>,
-    host: u8,
-    steps: &mut Steps<L>,
-) -> Result<Told, NoMemory>
-    requires { IsSome S.machine trial.old.core trial.old.sent.items }
-    ensures { OnOk result (IsSome S.machine trial.new.core trial.new.sent.items) }
-{
-    if host >= 64 {
-        return Err(NoMemory);
-    }
-    act(alloc, trial, Event::Crash(HostNo(host)), steps)
-}
-
-/// A host starts again.
-#[tactic(auto, using(crate::proofs::Trying::may_restart))]
-fn restart<S: Servant + Drop, L: Ledger>(
-    alloc: Global,
-    trial: &mut Trial<S>,
-    host: u8,
-    steps: &mut Steps<L>,
-) -> Result<Told, NoMemory>
-    requires { IsSome S.machine trial.old.core trial.old.sent.items }
-    ensures { OnOk result (IsSome S.machine trial.new.core trial.new.sent.items) }
-{
-    if host >= 64 {
-        return Err(NoMemory);
-    }
-    act(alloc, trial, Event::Restart(HostNo(host)), steps)
-}
-
-/// The members are changed: a host is reported, or added.
-#[tactic(auto, using(crate::proofs::Trying::may_manage))]
-fn change<S: Servant + Drop, L: Ledger>(
-    alloc: Global,
-    trial: &mut Trial<S>,
-    host: u8,
-    adds: bool,
-    steps: &mut Steps<L>,
-) -> Result<Told, NoMemory>
-    requires { IsSome S.machine trial.old.core trial.old.sent.items }
-    ensures { OnOk result (IsSome S.machine trial.new.core trial.new.sent.items) }
-{
-    if host >= 64 {
-        return Err(NoMemory);
-    }
-    if adds {
-        let event = Event::Manage(Change::Add(HostNo(host)));
-        return act(alloc, trial, event, steps);
-    }
-    let event = Event::Manage(Change::Report(HostNo(host)));
-    act(alloc, trial, event, steps)
-}
-
 /// The position and the balance of a host.
 fn look<S: Servant + Drop>(alloc: Global, trial: &Trial<S>, host: u8) -> Result<Told, NoMemory>
-    requires { IsSome S.machine trial.now.core trial.now.sent.items }
+    requires { IsSome S.machine trial.now.core }
 {
     if host >= 64 {
         return Err(NoMemory);
-    }
-    if trial.core.is_down(HostNo(host)) {
-        return Ok(("down", 0, 0));
     }
     match trial.core.replica(HostNo(host)) {
         None => Ok(("blank", 0, 0)),
@@ -570,20 +359,10 @@ fn look<S: Servant + Drop>(alloc: Global, trial: &Trial<S>, host: u8) -> Result<
     }
 }
 
-/// The version that a host knows.
-fn knows<S: Servant + Drop>(trial: &Trial<S>, host: u8) -> Result<Told, NoMemory>
-    requires { IsSome S.machine trial.now.core trial.now.sent.items }
-{
-    if host >= 64 {
-        return Err(NoMemory);
-    }
-    Ok(("knows", u64::from(trial.core.known(HostNo(host)).0), 0))
-}
-
 /// The next write fails.
 fn fail<S: Servant + Drop>(trial: &mut Trial<S>) -> Result<Told, NoMemory>
-    requires { IsSome S.machine trial.old.core trial.old.sent.items }
-    ensures { OnOk result (IsSome S.machine trial.new.core trial.new.sent.items) }
+    requires { IsSome S.machine trial.old.core }
+    ensures { OnOk result (IsSome S.machine trial.new.core) }
 {
     logs_go_on();
     trial.core.fail_next()?;
@@ -597,29 +376,20 @@ pub fn take<S: Servant + Drop, L: Ledger>(
     step: Step,
     steps: &mut Steps<L>,
 ) -> Result<Told, NoMemory>
-    requires { IsSome S.machine trial.old.core trial.old.sent.items }
-    ensures { OnOk result (IsSome S.machine trial.new.core trial.new.sent.items) }
+    requires { IsSome S.machine trial.old.core }
+    ensures { OnOk result (IsSome S.machine trial.new.core) }
 {
     match step {
-        Step::Ask(host, version, (id, until), 0, stop) => {
-            let asker = (version, id, until);
-            ask(alloc, trial, host, asker, "balance", &[], stop, steps)
-        }
-        Step::Ask(host, version, (id, until), amount, stop) => {
-            let asker = (version, id, until);
+        Step::Ask(host, id, 0) => ask(alloc, trial, host, id, "balance", &[], steps),
+        Step::Ask(host, id, amount) => {
             let body = [0, 0, 0, 0, 0, 0, 0, amount];
-            ask(alloc, trial, host, asker, "deposit", &body, stop, steps)
+            ask(alloc, trial, host, id, "deposit", &body, steps)
         }
-        Step::Hear(host, version) => hear(alloc, trial, host, version, steps),
-        Step::Crash(host) => crash(alloc, trial, host, steps),
-        Step::Restart(host) => restart(alloc, trial, host, steps),
-        Step::Checkpoint(clock) => checkpoint(alloc, trial, clock, steps),
+        Step::Checkpoint => checkpoint(alloc, trial, steps),
         Step::SendUpdate => send_update(alloc, trial, steps),
-        Step::Bring(number, place) => bring(alloc, trial, number, place, steps),
-        Step::Report(host) => change(alloc, trial, host, false, steps),
-        Step::Add(host) => change(alloc, trial, host, true, steps),
         Step::Fail => fail(trial),
         Step::Look(host) => look(alloc, trial, host),
-        Step::Knows(host) => knows(trial, host),
+        Step::Mark => Ok(("mark", u64::from(trial.core.log().mark()), 0)),
+        Step::Sent => Ok(sent_told(&trial.sent)),
     }
 }

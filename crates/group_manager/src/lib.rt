@@ -11,13 +11,6 @@
 //! let third = groups.add(type_id(alloc)?, Style::Warm)?;
 //! assert_eq!(rt; (first.0, second.0, third.0), (1, 2, 3));
 //! ```
-//!
-//! Who is told of a new view, by one message each:
-//!
-//! ```
-//! let out = view_sent(rt.alloc(), &view_of(old), &view_of(new))?;
-//! assert_eq!(rt; out.as_slice().len(), hosts.len());
-//! ```
 #![tactic(auto)]
 
 mod changing;

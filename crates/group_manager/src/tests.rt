@@ -1,12 +1,12 @@
-//! A row for each refusal of a change and for each kind of change in each style, whom a view is told, and
-//! the directory.
+//! Changes of groups that have had nearly all views that there can be, a row for each refusal; and the
+//! directory.
 ghost use Rattle.std.specs.Prelude.{◌≡◌, ◌≤◌, ◌∷◌, [], length, IfOk};
 ghost use Rattle.ft_base.specs.Members.{AreDifferent};
 ghost use Rattle.iogr_reference.specs.Formats.{AreShort};
 
-use crate::{Groups, changed, view_sent};
+use crate::{Groups, changed};
 use ft_base::{GroupId, HostNo, MEMBER_LIMIT, Members, Name, NoMemory, Style, Version, View};
-use group_model::{Change, Inner, ManageFault};
+use group_model::{Change, ManageFault};
 use iogr_reference::{Ior, Ports, RefFault, group_ref_of};
 use std::alloc::Global;
 use std::process::Abort;
@@ -67,8 +67,9 @@ const H: HostNo = HostNo(4);
 
 const OTHER: HostNo = HostNo(20);
 
-// In the order in which the causes are looked at: each change but the last meets later causes too.
-const REFUSED: [Row; 12] = [
+// In the order in which the causes are looked at. Each change but the last two meets later causes too, since there have
+// been as many views as there can be; and the one that leads there.
+const ROWS: [Row; 13] = [
     (
         Style::Active,
         FULL,
@@ -157,116 +158,19 @@ const REFUSED: [Row; 12] = [
         Change::Report(H),
         Err(ManageFault::ViewsFull(65_536)),
     ),
-];
-
-const PASSIVE: Seen = (7, &[4, 5, 6], Some(4));
-
-const ACTIVE: Seen = (7, &[4, 5, 6], None);
-
-const MADE: Change = Change::Create {
-    host: OTHER,
-    listed: true,
-    made: true,
-};
-
-const CHANGED: [Row; 18] = [
-    (
-        Style::Cold,
-        PASSIVE,
-        Change::Report(H),
-        Ok((8, &[5, 6], Some(5))),
-    ),
-    (
-        Style::Warm,
-        PASSIVE,
-        Change::Report(HostNo(5)),
-        Ok((8, &[4, 6], Some(4))),
-    ),
-    (
-        Style::Active,
-        ACTIVE,
-        Change::Report(H),
-        Ok((8, &[5, 6], None)),
-    ),
-    (
-        Style::Cold,
-        PASSIVE,
-        Change::Remove(HostNo(6)),
-        Ok((8, &[4, 5], Some(4))),
-    ),
-    (
-        Style::Warm,
-        PASSIVE,
-        Change::Remove(H),
-        Ok((8, &[5, 6], Some(5))),
-    ),
-    (
-        Style::Active,
-        ACTIVE,
-        Change::Remove(HostNo(5)),
-        Ok((8, &[4, 6], None)),
-    ),
     (
         Style::Cold,
         (65_535, &[4], Some(4)),
         Change::Remove(H),
         Ok((65_536, &[], None)),
     ),
-    (
-        Style::Cold,
-        PASSIVE,
-        Change::Add(OTHER),
-        Ok((8, &[4, 5, 6, 20], Some(4))),
-    ),
-    (
-        Style::Warm,
-        PASSIVE,
-        Change::Add(OTHER),
-        Ok((8, &[4, 5, 6, 20], Some(4))),
-    ),
-    (
-        Style::Active,
-        ACTIVE,
-        Change::Add(OTHER),
-        Ok((8, &[4, 5, 6, 20], None)),
-    ),
-    (
-        Style::Warm,
-        (7, &[], None),
-        Change::Add(OTHER),
-        Ok((8, &[20], Some(20))),
-    ),
-    (
-        Style::Active,
-        (7, &[], None),
-        Change::Add(OTHER),
-        Ok((8, &[20], None)),
-    ),
-    (Style::Cold, PASSIVE, MADE, Ok((8, &[4, 5, 6, 20], Some(4)))),
-    (Style::Warm, (7, &[], None), MADE, Ok((8, &[20], Some(20)))),
-    (Style::Active, ACTIVE, MADE, Ok((8, &[4, 5, 6, 20], None))),
-    (
-        Style::Cold,
-        PASSIVE,
-        Change::Primary(HostNo(6)),
-        Ok((8, &[4, 5, 6], Some(6))),
-    ),
-    (
-        Style::Warm,
-        PASSIVE,
-        Change::Primary(HostNo(5)),
-        Ok((8, &[4, 5, 6], Some(5))),
-    ),
-    (
-        Style::Active,
-        ACTIVE,
-        Change::Primary(H),
-        Err(ManageFault::BadReplicationStyle),
-    ),
 ];
 
-fn each_row(rt: &impl Abort, rows: &[Row]) {
-    for (style, seen, change, wanted) in rows {
+const PASSIVE: Seen = (7, &[4, 5, 6], Some(4));
+
+#[test]
+fn changes(rt: HostRuntime) {
+    for (style, seen, change, wanted) in &ROWS {
         match changed(&view_of(seen), *style, change) {
             Ok(view) => assert!(rt;
                 matches!(wanted, Ok(next) if is_seen(&view, next)),
@@ -278,32 +182,6 @@ fn each_row(rt: &impl Abort, rows: &[Row]) {
             ),
         }
     }
-}
-
-#[test]
-fn changes(rt: HostRuntime) {
-    each_row(&rt, &REFUSED);
-    each_row(&rt, &CHANGED);
-}
-
-// An old view, a new one, and the hosts that are told of it.
-const TOLD: [(Seen, Seen, &[u8]); 3] = [
-    ((1, &[4, 5], Some(4)), (2, &[5], Some(5)), &[4, 5]),
-    ((1, &[4, 5], Some(4)), (2, &[4, 5, 6], Some(4)), &[4, 5, 6]),
-    ((1, &[], None), (2, &[6], Some(6)), &[6]),
-];
-
-#[test]
-fn views_are_told(rt: HostRuntime) -> Result<(), NoMemory> {
-    for (old, new, hosts) in &TOLD {
-        let out = view_sent(rt.alloc(), &view_of(old), &view_of(new))?;
-        assert_eq!(rt; out.as_slice().len(), hosts.len());
-        for (sent, host) in out.as_slice().iter().zip(hosts.iter()) {
-            assert_eq!(rt; sent.to.0, *host);
-            assert!(rt; matches!(&sent.carried, Inner::View { version } if version.0 == 2));
-        }
-    }
-    Ok(())
 }
 
 fn type_id(alloc: Global) -> Result<Name, NoMemory> {

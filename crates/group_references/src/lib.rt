@@ -1,16 +1,13 @@
 //! The references of groups as clients go by them, made of views, and the ports of all hosts.
 //! (Chapter 23, "Object group references".)
 //!
-//! The reference of a view of two members, of which the second is the primary:
+//! The host that listens at a port, where there is one:
 //!
 //! ```
-//! let two = View {
-//!     version: Version(4),
-//!     members,
-//!     primary: Some(HostNo(2)),
-//! };
-//! let whole = view_reference(alloc, GroupId(1), &kind, &two, &ports)?;
-//! assert!(rt; whole.primary == Some(1));
+//! (1999, None),
+//! (2000, Some(HostNo(0))),
+//! (2063, Some(HostNo(63))),
+//! (2064, None),
 //! ```
 #![tactic(auto)]
 
