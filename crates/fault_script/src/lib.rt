@@ -1,12 +1,11 @@
 //! The lines of a script: their grammar, and its reader.
 //!
-//! A line's text is nothing, a line, or why it is refused:
+//! A line's text is nothing, a line, or why it is refused; the words of a call are read by its operation's signature:
 //!
 //! ```
 //! match read_line(alloc, line) {
-//!     Ok(None) => b"nothing",
-//!     Ok(Some(line)) => form(&line),
-//!     Err(fault) => fault.text(),
+//!     Ok(Some(Line::Call { words, .. })) => call_words(alloc, Some(signature), &words),
+//!     _ => Err(LineFault::Later),
 //! }
 //! ```
 #![tactic(auto)]

@@ -3,12 +3,13 @@
 //! Lines are pushed one behind the other, and are one text in the end:
 //!
 //! ```
-//! let mut lines = ReportLines::new(alloc);
-//! lines.push(ReportLine::Down { host: HOST })?;
-//! lines.push(ReportLine::Up { host: HOST })?;
-//! lines.push(ReportLine::LinkClosed)?;
-//! let text = lines.into_bytes();
-//! assert!(rt; text.bytes() == b"down 0\nup 0\nlink closed\n".as_slice());
+//! lines.push(done(alloc, CallEnd::IdsSpent)?)?;
+//! ```
+//!
+//! ```
+//! let mut ended = ReportLines::new(alloc);
+//! ends(alloc, &mut ended)?;
+//! assert!(rt; ended.into_bytes().bytes() == ENDED);
 //! ```
 #![tactic(auto)]
 

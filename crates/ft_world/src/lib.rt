@@ -5,14 +5,23 @@
 //! operation are judged before its client.
 //!
 //! ```
-//! (
-//!     b"hosts 1\ngroup g account cold 0\ncall ann g deposit\n",
-//!     b"ftc: line 3: syntax\n",
-//! ),
-//! (
-//!     b"hosts 1\ngroup g account cold 0\ncall ann g deposit 1",
-//!     b"ftc: line 3: unknown\n",
-//! ),
+//! # A deposit needs an amount, whoever calls.
+//! hosts 1
+//! group g account cold 0
+//!     group g 1
+//!     view g 1 members 0 primary 0
+//! call ann g deposit
+//!     ftc: line 4: syntax
+//! ```
+//!
+//! ```
+//! # The words behind an operation are judged before its client.
+//! hosts 1
+//! group bank account cold 0
+//!     group bank 1
+//!     view bank 1 members 0 primary 0
+//! call c0 bank deposit 700
+//!     ftc: line 4: unknown
 //! ```
 #![tactic(auto)]
 

@@ -7,13 +7,16 @@
 //! The interval of checkpoints at each level: for all groups, for accounts, at a creation, and while a group runs.
 //!
 //! ```
-//! assert!(rt; set_default(alloc, &mut manager, b"50".as_slice()));
-//! assert!(rt; set_type(alloc, &mut manager, &account, b"60".as_slice()));
-//! let criteria = one(alloc, INTERVAL, b"70".as_slice())?;
-//! assert!(rt; create(alloc, &mut manager, early, &account, criteria.as_slice()));
-//! assert!(rt; ends_with(manager.get_properties(alloc, early), b"70".as_slice()));
-//! assert!(rt; set_group(alloc, &mut manager, early, b"080".as_slice()));
-//! assert!(rt; ends_with(manager.get_properties(alloc, early), b"080".as_slice()));
+//! set default org.omg.ft.CheckpointInterval 50
+//! set type account org.omg.ft.CheckpointInterval 60
+//! create early account org.omg.ft.CheckpointInterval=70
+//!     group early 1
+//!     view early 1 members - primary -
+//! get group early org.omg.ft.CheckpointInterval
+//!     property org.omg.ft.CheckpointInterval 70
+//! set group early org.omg.ft.CheckpointInterval 080
+//! get group early org.omg.ft.CheckpointInterval
+//!     property org.omg.ft.CheckpointInterval 080
 //! ```
 #![tactic(auto)]
 

@@ -3,10 +3,7 @@
 //! A line is its words with a space between each two, and an LF:
 //!
 //! ```
-//! let mut text = Vec::new(alloc);
-//! push_line(&mut text, &[Word::Fixed(b"up"), Word::Number(3)])?;
-//! push_line(&mut text, &[Word::Host(None), Word::Location(HostNo(3))])?;
-//! assert!(rt; text.as_slice() == b"up 3\n- h3\n".as_slice());
+//! push_line(text, &[Fixed(word), Text(name.bytes()), Number(number)])
 //! ```
 #![tactic(auto)]
 

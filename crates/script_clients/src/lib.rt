@@ -1,18 +1,20 @@
 //! The clients of a script: each invokes one group after another, and keeps a reference to each group that it
 //! knows.
 //!
-//! ann's first attempt goes to the port of the primary, and she hears of its end:
+//! A client joins a world, begins an invocation, and hears a reply:
 //!
 //! ```
-//! let mut ann = ScriptClient::new(name(alloc, b"ann")?, alloc);
-//! let first = of_two(alloc, 7, 1)?;
-//! let told = ann.start(alloc, first, Tick(10), true, true, request(alloc)?)?;
-//! assert!(rt; shown(&told) == ("attempt", 2000, 1));
+//! world.add_client(ScriptClient::new(name, world.alloc()))?;
 //! ```
 //!
 //! ```
-//! let told = ann.hear(alloc, id, heard, Tick(0))?;
-//! assert!(rt; shown(&told) == want);
+//! let client = &mut self.items[place];
+//! client.start(alloc, reference, expiration, numbers, versioned, request)
+//! ```
+//!
+//! ```
+//! let client = &mut self.items[place];
+//! client.hear(alloc, id, heard, now)
 //! ```
 #![tactic(auto)]
 

@@ -4,22 +4,21 @@
 //! A group is made, an event comes to it, and it is shown:
 //!
 //! ```
-//! let name = name_of(alloc, "acct")?;
-//! let members = three();
-//! ScriptGroup::new(alloc, GroupId(1), name, Kind::Account, Style::Cold, members)
+//! let mut group = ScriptGroup::new(alloc, id, name, kind, style, members)?;
 //! ```
 //!
 //! ```
-//! match group.act(alloc, event, steps) {
+//! match group.act(world.alloc(), Event::Crash(host), steps) {
 //!     GroupAnswer::NoMemory => Err(NoMemory),
 //!     _ => Ok(()),
 //! }
 //! ```
 //!
 //! ```
-//! let report = group.shown(alloc)?;
-//! let text = report.into_bytes();
-//! assert!(rt; text.bytes() == wanted.as_bytes(), "{wanted}");
+//! match world.group(place).shown(world.alloc()) {
+//!     Ok(report) => Ok(report),
+//!     Err(NoMemory) => Err(LineFault::NoMemory),
+//! }
 //! ```
 #![tactic(auto)]
 

@@ -5,13 +5,11 @@
 //! A client of a world begins an invocation, and hears its reply:
 //!
 //! ```
-//! let mut world = World::new(alloc)?;
-//! world.add_client(ScriptClient::new(name(alloc, b"ann")?, alloc))?;
-//! let attempted = world.start_at(0, begun(alloc)?)?;
-//! assert!(rt; told(&attempted) == ("attempt", 2001, 1));
-//! let value = Bytes::of(alloc, b"\x05")?;
-//! let ended = world.hear_at(0, 1, Heard::Outcome(Outcome::Value(value)))?;
-//! assert!(rt; told(&ended) == ("ended", 1, 0));
+//! let told = world.start_at(client, begun)?;
+//! ```
+//!
+//! ```
+//! let told = world.hear_at(client, id, heard)?;
 //! ```
 #![tactic(auto)]
 

@@ -5,14 +5,17 @@
 //! must be there, and differ.
 //!
 //! ```
-//! (
-//!     b"hosts 1\ngroup g account cold 1\n",
-//!     b"ftc: line 2: unknown\n",
-//! ),
-//! (
-//!     b"hosts 1\ngroup g account cold 0 0\n",
-//!     b"ftc: line 2: again\n",
-//! ),
+//! # A member on a host that is not there.
+//! hosts 1
+//! group g account cold 1
+//!     ftc: line 3: unknown
+//! ```
+//!
+//! ```
+//! # A host that is named twice.
+//! hosts 1
+//! group g account cold 0 0
+//!     ftc: line 3: again
 //! ```
 #![tactic(auto)]
 

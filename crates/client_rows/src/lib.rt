@@ -1,7 +1,0 @@
-//! Rows of clients that try again.
-#![tactic(auto)]
-
-#[cfg(test)]
-mod clients;
-#[cfg(test)]
-mod retries;

@@ -1,5 +1,0 @@
-//! Rows of groups as a script has them.
-#![tactic(auto)]
-
-#[cfg(test)]
-mod groups;

@@ -1,5 +1,0 @@
-use Rattle.run_rows.proofs.runs.clients_try_again.Given as goal
-
--- the ledger that the blank counter begins
-abbrev pub ghosts-each_row : goal.ghosts-each_row
-ghosts-each_row a b = record { name = b.blank.name; parts = b.blank.parts }
