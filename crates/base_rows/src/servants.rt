@@ -1,0 +1,147 @@
+//! A servant that is kept from line to line, and another of its kind, its base.
+ghost use Rattle.std.specs.Prelude.{◌<◌, ◌+◌, ◌^◌, length, IfOk};
+ghost use Rattle.ft_base.specs.Machine.{Fits};
+
+use crate::states;
+use crate::texts::{self, cut, no_memory, octets, shown};
+use crate::values::print_outcome;
+use anyhow::{Context, Result, anyhow, bail};
+use cdr_codec::{CdrWriter, Order, Raw, args_of};
+use ft_base::{Bytes, Name, NoMemory, Par, Request, Servant, Signature, Steps};
+use shipped_servants::{Kind, Shipped};
+use std::alloc::Global;
+use std::sync::ledger::Ledger;
+
+/// The servant that lines speak of, and its base.
+#[derive(Drop)]
+pub struct Servants {
+    pub servant: Option<Shipped>,
+    pub base: Option<Shipped>,
+}
+
+/// `servant WHAT ..`
+pub fn answer<L: Ledger>(
+    rt: &HostRuntime,
+    servants: &mut Servants,
+    steps: &mut Steps<L>,
+    words: &str,
+) -> Result<()> {
+    let (what, words) = cut(words);
+    if what == "new" {
+        return begin(rt, servants, words);
+    }
+    let servant = servants.servant.as_mut().context("no servant")?;
+    match what {
+        "call" => call(rt, servant, steps, words),
+        "signature" => signature(rt, servant, words),
+        "base" => {
+            servants.base = Some(servant.copy(rt.alloc()).map_err(no_memory)?);
+            Ok(())
+        }
+        "follow" => {
+            let base = servants.base.as_mut().context("no base")?;
+            states::follow(rt, servant, base)
+        }
+        _ => states::answer(rt, servant, what, words),
+    }
+}
+
+// `TYPE-ID`
+fn begin(rt: &HostRuntime, servants: &mut Servants, words: &str) -> Result<()> {
+    match Kind::with_type_id(words.as_bytes()) {
+        Some(kind) => {
+            let servant = Shipped::open(rt.alloc(), kind).map_err(no_memory)?;
+            states::print_state(rt, &servant)?;
+            servants.servant = Some(servant);
+        }
+        None => println!(rt; "    no kind has this type id")?,
+    }
+    Ok(())
+}
+
+fn signature_of(alloc: Global, servant: &Shipped, op: &str) -> Result<Signature> {
+    let op = texts::name(alloc, op)?;
+    servant.signature(&op).context("no such operation")
+}
+
+// `OP`: how many parameters it has
+fn signature(rt: &HostRuntime, servant: &Shipped, words: &str) -> Result<()> {
+    let signature = signature_of(rt.alloc(), servant, words)?;
+    let count = u8::from(signature.first.is_some()) + u8::from(signature.second.is_some());
+    println!(rt; "    {count} parameters")?;
+    Ok(())
+}
+
+// A parameter behind the others: an amount, or octets, of which a text has its NUL.
+fn write_argument(alloc: Global, writer: &mut CdrWriter, par: Par, word: &str) -> Result<()> {
+    if par == Par::I64 {
+        return writer.write_i64(word.parse::<i64>()?).map_err(no_memory);
+    }
+    let mut octets = octets(alloc, word)?;
+    if par == Par::Text {
+        octets.push(0)?;
+    }
+    if octets.len() > 65_536 {
+        bail!("too long: {word}");
+    }
+    writer.write_octets(octets.as_slice()).map_err(no_memory)
+}
+
+fn body_of(alloc: Global, signature: &Signature, words: &str) -> Result<Bytes> {
+    let (first, second) = cut(words);
+    let mut writer = CdrWriter::new(alloc, Order::Big, 0);
+    if let Some(par) = signature.first {
+        write_argument(alloc, &mut writer, par, first)?;
+    }
+    if let Some(par) = signature.second {
+        write_argument(alloc, &mut writer, par, second)?;
+    }
+    Ok(writer.finish())
+}
+
+fn request_of<S: Servant>(
+    alloc: Global,
+    servant: &S,
+    op: Name,
+    bytes: Bytes,
+) -> Result<Request, NoMemory>
+    requires body { length bytes + 8 < 2 ^ 32 }
+    ensures { IfOk result (λ request. Fits (S.machine (S.kind servant.now)) request) }
+{
+    let signature = match servant.signature(&op) {
+        Some(signature) => signature,
+        None => return Err(NoMemory),
+    };
+    let body = Raw {
+        order: Order::Big,
+        align: 0,
+        bytes,
+    };
+    match args_of(alloc, &body, &signature) {
+        Ok(args) => Ok(Request {
+            key: None,
+            op,
+            args,
+        }),
+        Err(_) => Err(NoMemory),
+    }
+}
+
+// `OP ARGUMENT..`: what the servant gives
+fn call<L: Ledger>(
+    rt: &HostRuntime,
+    servant: &mut Shipped,
+    steps: &mut Steps<L>,
+    words: &str,
+) -> Result<()> {
+    let (op, words) = cut(words);
+    let signature = signature_of(rt.alloc(), servant, op)?;
+    let body = body_of(rt.alloc(), &signature, words)?;
+    if body.bytes().len() > 1_000_000 {
+        return Err(anyhow!("too long"));
+    }
+    let op = texts::name(rt.alloc(), op)?;
+    let request = request_of(rt.alloc(), servant, op, body).map_err(no_memory)?;
+    let outcome = servant.invoke(rt.alloc(), &request, steps).map_err(no_memory)?;
+    print_outcome(rt, &outcome)
+}
