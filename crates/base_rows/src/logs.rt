@@ -92,9 +92,15 @@ fn clocked(alloc: Global, words: &str) -> Result<(Tick, Request)> {
     Ok((Tick(clock.parse::<u64>()?), request))
 }
 
-fn appended(alloc: Global, log: &mut Log<MemKeeper>, clock: Tick, request: Request) -> Result<Option<Appended>> {
+fn appended(
+    alloc: Global,
+    log: &mut Log<MemKeeper>,
+    clock: Tick,
+    request: Request,
+) -> Result<Option<Appended>> {
     let version = log.newest().version;
-    log.reserve(alloc, version, clock, &request).map_err(no_memory)?;
+    log.reserve(alloc, version, clock, &request)
+        .map_err(no_memory)?;
     if log.admit(version, clock, &request) != Admit::New {
         return Ok(None);
     }

@@ -3,6 +3,7 @@
 #![tactic(auto)]
 
 mod logs;
+mod moves;
 mod openings;
 mod records;
 mod servants;

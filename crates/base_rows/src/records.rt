@@ -59,7 +59,11 @@ fn changed(rt: &HostRuntime, piece: &[u8], words: &str) -> Result<()> {
     let (place, words) = cut(words);
     let octets = octets(rt.alloc(), words)?;
     let mut bytes = Vec::from_slice(rt.alloc(), piece)?;
-    put_at(bytes.as_mut_slice(), place.parse::<usize>()?, octets.as_slice());
+    put_at(
+        bytes.as_mut_slice(),
+        place.parse::<usize>()?,
+        octets.as_slice(),
+    );
     read(rt, bytes.as_slice())
 }
 

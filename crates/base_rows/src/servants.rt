@@ -2,12 +2,13 @@
 ghost use Rattle.std.specs.Prelude.{◌<◌, ◌+◌, ◌^◌, length, IfOk};
 ghost use Rattle.ft_base.specs.Machine.{Fits};
 
+use crate::moves::moved;
 use crate::states;
-use crate::texts::{self, cut, no_memory, octets, shown};
+use crate::texts::{self, cut, no_memory, octets};
 use crate::values::print_outcome;
-use anyhow::{Context, Result, anyhow, bail};
+use anyhow::{Context, Result, bail};
 use cdr_codec::{CdrWriter, Order, Raw, args_of};
-use ft_base::{Bytes, Name, NoMemory, Par, Request, Servant, Signature, Steps};
+use ft_base::{Bytes, Par, Request, Servant, Signature, Steps};
 use shipped_servants::{Kind, Shipped};
 use std::alloc::Global;
 use std::sync::ledger::Ledger;
@@ -42,6 +43,10 @@ pub fn answer<L: Ledger>(
             let base = servants.base.as_mut().context("no base")?;
             states::follow(rt, servant, base)
         }
+        "move" => {
+            let base = servants.base.as_mut().context("no base")?;
+            move_account(rt, servant, base, steps, words)
+        }
         _ => states::answer(rt, servant, what, words),
     }
 }
@@ -59,14 +64,10 @@ fn begin(rt: &HostRuntime, servants: &mut Servants, words: &str) -> Result<()> {
     Ok(())
 }
 
-fn signature_of(alloc: Global, servant: &Shipped, op: &str) -> Result<Signature> {
-    let op = texts::name(alloc, op)?;
-    servant.signature(&op).context("no such operation")
-}
-
 // `OP`: how many parameters it has
 fn signature(rt: &HostRuntime, servant: &Shipped, words: &str) -> Result<()> {
-    let signature = signature_of(rt.alloc(), servant, words)?;
+    let op = texts::name(rt.alloc(), words)?;
+    let signature = servant.signature(&op).context("no such operation")?;
     let count = u8::from(signature.first.is_some()) + u8::from(signature.second.is_some());
     println!(rt; "    {count} parameters")?;
     Ok(())
@@ -99,19 +100,17 @@ fn body_of(alloc: Global, signature: &Signature, words: &str) -> Result<Bytes> {
     Ok(writer.finish())
 }
 
-fn request_of<S: Servant>(
-    alloc: Global,
-    servant: &S,
-    op: Name,
-    bytes: Bytes,
-) -> Result<Request, NoMemory>
-    requires body { length bytes + 8 < 2 ^ 32 }
+// The request that words say: `OP ARGUMENT..`.
+fn request_of<S: Servant>(alloc: Global, servant: &S, words: &str) -> Result<Request>
     ensures { IfOk result (λ request. Fits (S.machine (S.kind servant.now)) request) }
 {
-    let signature = match servant.signature(&op) {
-        Some(signature) => signature,
-        None => return Err(NoMemory),
-    };
+    let (op, words) = cut(words);
+    let op = texts::name(alloc, op)?;
+    let signature = servant.signature(&op).context("no such operation")?;
+    let bytes = body_of(alloc, &signature, words)?;
+    if bytes.bytes().len() > 1_000_000 {
+        bail!("too long: {words}");
+    }
     let body = Raw {
         order: Order::Big,
         align: 0,
@@ -123,8 +122,25 @@ fn request_of<S: Servant>(
             op,
             args,
         }),
-        Err(_) => Err(NoMemory),
+        Err(_) => bail!("other arguments: {words}"),
     }
+}
+
+// A copy of an account is called, and another one follows it by the update; the base comes there by the whole state.
+fn move_account<L: Ledger>(
+    rt: &HostRuntime,
+    servant: &Shipped,
+    base: &mut Shipped,
+    steps: &mut Steps<L>,
+    words: &str,
+) -> Result<()> {
+    let (Shipped::Account(servant), Shipped::Account(base)) = (servant, base) else {
+        bail!("no accounts");
+    };
+    let request = request_of(rt.alloc(), servant, words)?;
+    let moved = moved(rt.alloc(), servant, base, &request, steps).map_err(no_memory)?;
+    states::print_state(rt, &moved)?;
+    states::print_state(rt, base)
 }
 
 // `OP ARGUMENT..`: what the servant gives
@@ -134,14 +150,9 @@ fn call<L: Ledger>(
     steps: &mut Steps<L>,
     words: &str,
 ) -> Result<()> {
-    let (op, words) = cut(words);
-    let signature = signature_of(rt.alloc(), servant, op)?;
-    let body = body_of(rt.alloc(), &signature, words)?;
-    if body.bytes().len() > 1_000_000 {
-        return Err(anyhow!("too long"));
-    }
-    let op = texts::name(rt.alloc(), op)?;
-    let request = request_of(rt.alloc(), servant, op, body).map_err(no_memory)?;
-    let outcome = servant.invoke(rt.alloc(), &request, steps).map_err(no_memory)?;
+    let request = request_of(rt.alloc(), servant, words)?;
+    let outcome = servant
+        .invoke(rt.alloc(), &request, steps)
+        .map_err(no_memory)?;
     print_outcome(rt, &outcome)
 }

@@ -19,7 +19,7 @@ pub fn answer(rt: &HostRuntime, servant: &mut Shipped, what: &str, words: &str) 
     }
 }
 
-pub fn print_state(rt: &HostRuntime, servant: &Shipped) -> Result<()> {
+pub fn print_state<S: Servant>(rt: &HostRuntime, servant: &S) -> Result<()> {
     let state = servant.get_state(rt.alloc()).map_err(no_memory)?;
     println!(rt; "    state {}", shown(rt.alloc(), state.bytes())?)?;
     Ok(())

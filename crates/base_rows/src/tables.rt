@@ -10,7 +10,12 @@ use reply_table::{Found, ReplyTable};
 use std::alloc::Global;
 
 /// `place add NAME` behind all others, `place of NAME`
-pub fn place(rt: &HostRuntime, places: &mut NamePlaces, count: &mut usize, words: &str) -> Result<()> {
+pub fn place(
+    rt: &HostRuntime,
+    places: &mut NamePlaces,
+    count: &mut usize,
+    words: &str,
+) -> Result<()> {
     let (what, word) = cut(words);
     let name = texts::name(rt.alloc(), word)?;
     match what {

@@ -80,8 +80,11 @@ pub fn request(alloc: Global, words: &str) -> Result<Request> {
     })
 }
 
-/// Octets as they are printed: hexadecimal digits, or how many there are of more than 64.
+/// Octets as they are printed: hexadecimal digits, `-` for none, or how many there are of more than 64.
 pub fn shown(alloc: Global, octets: &[u8]) -> Result<String> {
+    if octets.is_empty() {
+        return Ok(String::from_str(alloc, "-")?);
+    }
     if octets.len() > 64 {
         return Ok(format!(in alloc; "{} octets", octets.len())?);
     }

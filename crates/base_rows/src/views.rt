@@ -36,7 +36,10 @@ pub fn print_view(rt: &HostRuntime, view: &View) -> Result<()> {
     let members = view.members.hosts();
     match view.primary {
         Some(primary) => {
-            println!(rt; "    version {version} members {members:?} primary {}", primary.0)?;
+            println!(rt;
+                "    version {version} members {members:?} primary {}",
+                primary.0
+            )?;
         }
         None => println!(rt; "    version {version} members {members:?}")?,
     }
