@@ -78,6 +78,28 @@ fn answer<L: Ledger>(
     }
 }
 
+// Writes a line back, and its answer below it.
+fn serve<L: Ledger>(
+    rt: &HostRuntime,
+    desk: &mut Desk,
+    steps: &mut Steps<L>,
+    line: &str,
+) -> Result<()> {
+    println!(rt; "{line}")?;
+    if line.is_empty() || line.starts_with('#') {
+        return Ok(());
+    }
+    answer(rt, desk, steps, line)
+}
+
+fn serve_all<L: Ledger>(rt: &HostRuntime, desk: &mut Desk, steps: &mut Steps<L>) -> Result<()> {
+    for line in rt.lines(rt.alloc()) {
+        let line = line?;
+        serve(rt, desk, steps, line.as_str())?;
+    }
+    Ok(())
+}
+
 fn run<L: Ledger>(rt: &HostRuntime, blank: Blank) -> Result<()>
     requires name { blank.name ≡ L.name }
     requires parts { blank.parts ≡ L.parts }
@@ -85,15 +107,7 @@ fn run<L: Ledger>(rt: &HostRuntime, blank: Blank) -> Result<()>
 {
     let mut steps = Steps::<L>::new(blank);
     let mut desk = empty_desk(rt.alloc());
-    for line in rt.lines(rt.alloc()) {
-        let line = line?;
-        let line = line.as_str();
-        println!(rt; "{line}")?;
-        if !line.is_empty() && !line.starts_with('#') {
-            answer(rt, &mut desk, &mut steps, line)?;
-        }
-    }
-    Ok(())
+    serve_all(rt, &mut desk, &mut steps)
 }
 
 fn main(rt: HostRuntime) -> Result<()> {
