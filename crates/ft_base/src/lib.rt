@@ -5,20 +5,18 @@
 //! Any servant is asked like this:
 //!
 //! ```
-//! let request = request_of(alloc, servant, op.as_bytes(), body)?;
-//! servant.invoke(alloc, &request, steps)
+//! let request = request_of(rt.alloc(), servant, words)?;
+//! let outcome = servant
+//!     .invoke(rt.alloc(), &request, steps)
+//!     .map_err(no_memory)?;
 //! ```
 //!
-//! Another one comes to the state of `from` by an update, which leads on from `base`, or by the whole state:
+//! Another one comes to the state of `from` by an update, which leads on from `servant`, or by the whole state:
 //!
 //! ```
-//! let mut to = base.copy(alloc)?;
-//! move_update(alloc, &from, &base, &mut to)?;
-//! let nine = 9u64.to_be_bytes();
-//! let state = to.get_state(alloc)?;
-//! assert!(rt; state.bytes() == nine.as_slice(), "by the update");
-//! let mut other = Account::new(1);
-//! move_state(alloc, &from, &mut other)?;
+//! let mut to = servant.copy(alloc)?;
+//! move_update(alloc, &from, servant, &mut to)?;
+//! move_state(alloc, &from, other)?;
 //! ```
 #![tactic(auto)]
 
@@ -48,6 +46,3 @@ pub use servants::{Servant, StateFault, UpdateFault};
 pub use text::{Bytes, NAME_LIMIT, Name, NameFault};
 pub use values::{Value, canonical_forms_are_of_values};
 pub use views::{MEMBER_LIMIT, Members, Style, View};
-
-#[cfg(test)]
-mod tests;

@@ -4,19 +4,19 @@
 //! A record is an encapsulation in big endian order, and its first octet gives its form. Each is
 //! written from the values that it tells, and is read as exactly the record that its bytes spell.
 //!
-//! The records of an entry and of a view, and whether bytes are a record:
+//! The record of an entry, and what record bytes are:
 //!
 //! ```
-//! let entry = entry_record(alloc, 5, Version(2), Tick(9), &request(alloc)?)?;
-//! assert!(rt; entry.bytes() == ENTRY);
-//! assert!(rt; view_record(alloc, &view())?.bytes() == VIEW);
+//! let record = entry_record(rt.alloc(), position, version, tick, &request).map_err(no_memory)?;
 //! ```
 //!
 //! ```
-//! match record_in(alloc, piece)? {
-//!     Some(_told) => Ok(true),
-//!     None => Ok(false),
-//! }
+//! let kind = match record_in(rt.alloc(), piece).map_err(no_memory)? {
+//!     Some(Record::Entry(_)) => "an entry",
+//!     Some(Record::View(_)) => "a view",
+//!     Some(Record::Checkpoint(_)) => "a checkpoint",
+//!     None => "no record",
+//! };
 //! ```
 #![tactic(auto)]
 

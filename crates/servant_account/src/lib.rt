@@ -1,12 +1,10 @@
 //! The account: a servant that keeps a balance, to which clients add and from which they take.
 //!
-//! An account is asked, and its state read:
+//! A copy of an account is called, and another one follows it:
 //!
 //! ```
-//! let mut account = Account::new(*opening);
-//! let request = request_of(alloc, &account, *operation, *amount)?;
-//! let outcome = account.invoke(alloc, &request, steps)?;
-//! let state = account.get_state(alloc)?;
+//! let request = request_of(rt.alloc(), servant, words)?;
+//! let moved = moved(rt.alloc(), servant, base, &request, steps).map_err(no_memory)?;
 //! ```
 #![tactic(auto)]
 
@@ -14,6 +12,3 @@ mod accounts;
 mod operations;
 
 pub use accounts::Account;
-
-#[cfg(test)]
-mod tests;

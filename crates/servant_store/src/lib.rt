@@ -1,15 +1,14 @@
 //! The store: a servant that keeps values by their keys.
 //!
-//! What one store is asked, one call behind the other: the operation, its key and its value, the exception, and what is
-//! told.
+//! What a full store answers, one call behind the other: a new value for a key, a key that leaves, and a new key:
 //!
 //! ```
-//! ("put", "b", "", "", &[1]),
-//! ("put", "a", "one", "", &[1]),
-//! ("put", "a", "two", "", &[0]),
-//! ("get", "a", "", "", b"\0\0\0\x03two"),
-//! ("get", "b", "", "", &[0, 0, 0, 0]),
-//! ("size", "", "", "", &[0, 0, 0, 2]),
+//! servant call put 0102 "w"
+//!     value 00
+//! servant call remove 0101
+//!     value -
+//! servant call put "new" ""
+//!     value 01
 //! ```
 #![tactic(auto)]
 

@@ -1,14 +1,16 @@
 //! The servants that are shipped: one type for all kinds, each found by its type id.
 //!
-//! A store is opened by its kind, and asked as every servant is:
+//! A servant is opened by its kind, and asked as every servant is:
 //!
 //! ```
-//! let mut store = Shipped::open(alloc, Kind::Store)?;
-//! for (op, key, value, exception, told) in &CALLS {
-//!     let body = body_of(alloc, op, key.as_bytes(), value.as_bytes())?;
-//!     let outcome = asked(alloc, &mut store, steps, op, body)?;
-//!     is_told(rt, &outcome, exception, told, op);
-//! }
+//! let servant = Shipped::open(rt.alloc(), kind).map_err(no_memory)?;
+//! ```
+//!
+//! ```
+//! let request = request_of(rt.alloc(), servant, words)?;
+//! let outcome = servant
+//!     .invoke(rt.alloc(), &request, steps)
+//!     .map_err(no_memory)?;
 //! ```
 #![tactic(auto)]
 
@@ -17,8 +19,3 @@ mod shipped;
 
 pub use kinds::Kind;
 pub use shipped::Shipped;
-
-#[cfg(test)]
-mod store_tests;
-#[cfg(test)]
-mod tests;

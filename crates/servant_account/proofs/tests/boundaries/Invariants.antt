@@ -1,5 +1,0 @@
-use Rattle.servant_account.proofs.tests.boundaries.Given as goal
-
--- the ledger that the blank counter begins
-abbrev pub ghosts-counted : goal.ghosts-counted
-ghosts-counted a b = record { name = b.blank.name; parts = b.blank.parts }

@@ -1,5 +1,0 @@
-use Rattle.shipped_servants.proofs.tests.queues.Given as goal
-
--- the ledger that the blank counter begins
-abbrev pub ghosts-counted : goal.ghosts-counted
-ghosts-counted a b = record { name = b.blank.name; parts = b.blank.parts }
