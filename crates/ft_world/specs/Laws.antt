@@ -44,7 +44,7 @@ pub record HasMore (g h : ScriptGroup) : Type 0 where
   pub more : List Event
   pub is : h ≡ with_more g more
 
--- What a group has accepted it keeps, each entry at its place; and an entry's reply is the same ever after.
+-- What a group has accepted it keeps, each entry at its place; and the reply that the journal gives it never changes.
 pub record KeepsEntries (g h : ScriptGroup) : Type 0 where
   pub id : h.id ≡ g.id
   pub more : List Entry

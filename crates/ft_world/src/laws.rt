@@ -13,8 +13,8 @@ pub fn scripts_accept_once()
     groups_keep_entries();
 }
 
-/// Whatever lines follow, no group is lost; each entry that a group has accepted stays what it is, at its place;
-/// and the one reply of an entry is the same ever after.
+/// Over any further lines no group is lost; each entry that a group has accepted stays what it is, at its place; and the
+/// reply that the journal gives it never changes.
 pub fn scripts_keep_entries()
     ensures { ScriptsKeepEntries }
 {

@@ -1,4 +1,4 @@
--- What holds of a group whatever comes to it: over every list of events, or over those that agree.
+-- What holds of a group over every list of events, or over those that agree.
 use Rattle.std.specs.Prelude.{◌≡◌, ℕ, ◌<◌, ◌≤◌, ◌⊎◌, Bool, List, ◌++◌, length, Some, None}
 use Rattle.ft_base.specs.Machine.{Machine}
 use Rattle.ft_base.specs.Journal.{Entry, IsJournal, reply_at}
@@ -50,7 +50,7 @@ pub record Grows (c after : Common) : Type 0 where
 abbrev pub GroupsGrow : Type 0
 GroupsGrow = Whatever (λ m g after. Grows g.common after.common)
 
--- The reply of an entry is the same ever after, whichever host gives it.
+-- The reply that the journal gives an entry never changes.
 abbrev pub RepliesStay : Type 0
 RepliesStay = Whatever (λ m g after. (i : ℕ) → i < length g.common.journal →
     reply_at m after.common.opening after.common.journal i ≡ reply_at m g.common.opening g.common.journal i)

@@ -17,16 +17,16 @@ pub fn groups_stay_sound()
     canonical_forms_are_of_values();
 }
 
-/// Whatever comes, the journal and the views only get more, at their end; time never falls, nor how much has
-/// run. So an accepted request stays what it is, and its reply and each state are the same ever after.
+/// Over any events the journal and the views only grow, at their end; time never falls, nor how much has run. So an
+/// accepted request stays what it is, and so do the reply that the journal gives it and the state after each entry.
 pub fn groups_grow()
     ensures grow { GroupsGrow }
     ensures replies { RepliesStay }
     ensures states { StatesStay }
 {}
 
-/// Whatever comes, a journal with each request at most once before its expiration stays one, and no host runs
-/// past its end.
+/// Over any events a journal with each request at most once before its expiration stays one, and what has run never
+/// passes its end.
 pub fn journals_stay()
     ensures once { JournalsStay }
     ensures ran { NoneRunsAhead }
@@ -34,12 +34,12 @@ pub fn journals_stay()
     requests_join();
 }
 
-/// A host that knows an older view than the newest appends nothing and calls no servant.
+/// A host that knows an older view than the newest, when it is asked, appends nothing and calls no servant.
 pub fn deposed_append_nothing()
     ensures { DeposedAppendNothing }
 {}
 
-/// What one host sent, or comes from outside, goes on agreeing with the group whatever comes in between.
+/// What one host sent, or comes from outside, goes on agreeing with the group over events that agree.
 pub fn agreement_lasts()
     ensures { AgreementLasts }
 {}
@@ -49,8 +49,8 @@ pub fn knowledge_never_falls()
     ensures { KnowledgeNeverFalls }
 {}
 
-/// Whatever comes, the servant is called once for each accepted entry that is run, once for each entry that a
-/// host catches up with, and once for each order that is applied.
+/// Where what has run isn't past the journal, an event calls the servant as often as it runs an accepted entry, catches
+/// up with one or applies an order: so many calls in all.
 pub fn calls_are_counted()
     ensures { CallsAreCounted }
 {}

@@ -48,8 +48,8 @@ RepliesStay = (g : ScriptGroup) (more : List Event) (i : ℕ) → i < length (co
 abbrev pub JournalsAcceptOnce : Type 0
 JournalsAcceptOnce = (g : ScriptGroup) → AtMostOnce (common_of g).journal
 
--- The servant is called by turns alone: once for each accepted entry that was run, for each entry that a host caught
--- up with, and for each order that was applied.
+-- Servant calls are those of turns: as many as accepted entries were run, entries were caught up with by a host, and
+-- orders were applied.
 abbrev pub CallsGoOn : Type 0
 CallsGoOn = (g : ScriptGroup) (e : Event) → servant_calls (acted g e) ≡ servant_calls g + (turn g e).calls
 

@@ -30,8 +30,8 @@ pub fn groups_keep_entries()
     journals_stay();
 }
 
-/// A group's servant is called by the turns of its events alone: once for each accepted entry that was run, once
-/// for each entry that a host caught up with, and once for each order that was applied.
+/// A group's servant calls are those of the turns of its events: as many as accepted entries were run, entries were
+/// caught up with by a host, and orders were applied.
 pub fn calls_are_counted()
     ensures none { NoneCalledYet }
     ensures go_on { CallsGoOn }
