@@ -1,199 +1,59 @@
-ghost use Rattle.std.specs.Prelude.{◌<◌, ◌^◌, Some, length, IfOk};
-ghost use Rattle.ft_base.specs.declared.requests.Par.TheVariants as pars;
+//! What a host answers, and how many bytes the messages of a script have.
+ghost use Rattle.std.specs.Prelude.{Some, IfOk};
 ghost use Rattle.cdr_codec.specs.declared.orders.Order.TheVariants.{Big};
-ghost use Rattle.sys_faults.specs.declared.faults.Completed.TheVariants.{No};
-ghost use Rattle.host_server.specs.Replies.{CanReply, IsForward, IsResult};
+ghost use Rattle.sys_faults.specs.Bodies.{OnUnknown};
+ghost use Rattle.iogr_reference.specs.Formats.{IsWritable};
+ghost use Rattle.host_server.specs.Replies.{CanReply, IsResult, IsShortId};
 
-use cdr_codec::{CdrWriter, Order, canonical};
-use ft_base::{Bytes, Name, NoMemory, Outcome, Par, Value};
-use host_server::{PortAnswer, locate_reply_bytes, message_error_bytes, reply_bytes};
-use iogr_reference::{Ior, Profile, Profiles};
+use cdr_codec::{CdrWriter, Order, Raw, canonical};
+use ft_base::{Bytes, GroupId, Key, Outcome, Par, Request, Retention, Tick, Version};
+use host_server::{PART_LIMIT, PortAnswer, locate_reply_bytes, message_error_bytes, reply_bytes};
+use iogr_reference::{Ior, Profile, Profiles, write_ior};
+use message_sizes::{fault_size, forward_size, outcome_size, request_size};
+use row_words::{RowFault, bytes_of, name_of, number, order_of, put_hex, text_of, value_of};
+use script_clients::Attempt;
 use std::alloc::Global;
-use sys_faults::{Completed, SysFault, SysKind};
+use sys_faults::{Completed, SysFault, SysKind, read_fault};
 
-// The number 5, in both byte orders.
-const FIVE_LITTLE: &str = "47494f5001020101140000000700000000000000000000000500000000000000";
+// No value of a row has more bytes in canonical form.
+const VALUE_LIMIT: usize = 1000;
 
-const FIVE_BIG: &str = "47494f5001020001000000140000000100000000000000000000000000000005";
-
-// The text `ok`.
-const OK_LITTLE: &str = "47494f5001020101130000000a0000000000000000000000030000006f6b00";
-
-const OK_BIG: &str = "47494f5001020001000000130000000a0000000000000000000000036f6b00";
-
-const QUEUE_EMPTY: &str = concat!(
-    "47494f500102000100000027000000090000000100000000",
-    "0000001749444c3a6674632f5175657565456d7074793a312e3000",
-);
-
-// The longest name of a user exception.
-const LONG_NAME: &str = concat!(
-    "47494f50010200010000011c000000090000000100000000",
-    "0000010c49444c3a6674632f",
-    "6e6e6e6e6e6e6e6e6e6e6e6e6e6e6e6e6e6e6e6e6e6e6e6e6e6e6e6e6e6e6e6e6e6e6e6e6e6e6e6e6e6e6e6e6e6e6e6e6e6e",
-    "6e6e6e6e6e6e6e6e6e6e6e6e6e6e6e6e6e6e6e6e6e6e6e6e6e6e6e6e6e6e6e6e6e6e6e6e6e6e6e6e6e6e6e6e6e6e6e6e6e6e",
-    "6e6e6e6e6e6e6e6e6e6e6e6e6e6e6e6e6e6e6e6e6e6e6e6e6e6e6e6e6e6e6e6e6e6e6e6e6e6e6e6e6e6e6e6e6e6e6e6e6e6e",
-    "6e6e6e6e6e6e6e6e6e6e6e6e6e6e6e6e6e6e6e6e6e6e6e6e6e6e6e6e6e6e6e6e6e6e6e6e6e6e6e6e6e6e6e6e6e6e6e6e6e6e",
-    "6e6e6e6e6e6e6e6e6e6e6e6e6e6e6e6e6e6e6e6e6e6e6e6e6e6e6e6e6e6e6e6e6e6e6e6e6e6e6e6e6e6e6e6e6e6e6e6e6e6e",
-    "6e6e6e6e6e",
-    "3a312e3000",
-);
-
-const NO_GROUP: &str = concat!(
-    "47494f500102000100000040000000000000000200000000",
-    "0000002749444c3a6f6d672e6f72672f434f5242412f",
-    "4f424a4543545f4e4f545f45584953543a312e300000",
-    "0000000100000001",
-);
-
-const BAD_CONTEXT: &str = concat!(
-    "47494f50010201013c000000080000000200000000000000",
-    "2200000049444c3a6f6d672e6f72672f434f5242412f",
-    "4241445f434f4e544558543a312e3000",
-    "00000300000001000000",
-);
-
-// What a host answers that knows an older view, and one that is asked with too long arguments.
-const INV_OBJREF: &str = concat!(
-    "47494f50010200010000003c000000030000000200000000",
-    "0000002149444c3a6f6d672e6f72672f434f5242412f",
-    "494e565f4f424a5245463a312e3000000000",
-    "0000000100000001",
-);
-
-const IMP_LIMIT: &str = concat!(
-    "47494f500102000100000038000000040000000200000000",
-    "0000002049444c3a6f6d672e6f72672f434f5242412f",
-    "494d505f4c494d49543a312e3000",
-    "0000000100000001",
-);
-
-// The reference to an account of group 1 at 127.0.0.1 and port 2000.
-const FORWARD_ACCOUNT: &str = concat!(
-    "47494f500102000100000058000000020000000300000000",
-    "0000001449444c3a6674632f4163636f756e743a312e3000",
-    "000000010000000000000028",
-    "000102000000000a3132372e302e302e310007d0",
-    "0000000c46544f47000000000000000100000000",
-);
-
-// The reference to no object.
-const FORWARD: &str = "47494f500102000100000018000000020000000300000000000000010000000000000000";
-
-const FORWARD_PERM: &str =
-    "47494f500102000100000018000000020000000400000000000000010000000000000000";
-
-fn is_hex(alloc: Global, bytes: &Bytes, text: &str) -> Result<bool, NoMemory> {
-    let found = hex::encode(alloc, bytes.bytes())?;
-    Ok(found.as_bytes() == text.as_bytes())
-}
-
-fn is_replied(
-    alloc: Global,
-    id: u32,
-    order: Order,
-    answer: &PortAnswer,
-    text: &str,
-) -> Result<bool, NoMemory>
-    requires { CanReply order answer.now }
+// The canonical form of a value, and its type.
+fn form_of(alloc: Global, word: &str) -> Result<(Bytes, Par), RowFault>
+    ensures { IfOk result (λ x. IsResult (Some x.1) x.0) }
 {
-    let bytes = reply_bytes(alloc, id, order, answer)?;
-    is_hex(alloc, &bytes, text)
+    let value = value_of(alloc, word)?;
+    let par = value.par();
+    let form = canonical(alloc, std::slice::from_ref(&value))?;
+    if form.bytes().len() > VALUE_LIMIT {
+        return Err(RowFault::NoRow);
+    }
+    Ok((form, par))
 }
 
-fn number(alloc: Global, n: i64) -> Result<Bytes, NoMemory>
-    ensures { IfOk result (IsResult (Some pars.I64)) }
+fn kind_of(word: &str) -> Result<SysKind, RowFault>
+    ensures { IfOk result (λ kind. OnUnknown kind IsShortId) }
 {
-    let bytes = canonical(alloc, &[Value::I64(n)])?;
-    Ok(bytes)
-}
-
-fn text(alloc: Global) -> Result<Bytes, NoMemory>
-    ensures { IfOk result (IsResult (Some pars.Text)) }
-{
-    let text = Bytes::of(alloc, b"ok")?;
-    let bytes = canonical(alloc, &[Value::Text(text)])?;
-    Ok(bytes)
-}
-
-#[test]
-fn numbers_in_both_byte_orders(rt: HostRuntime) -> Result<(), NoMemory> {
-    let alloc = rt.alloc();
-    let answer = PortAnswer::Done {
-        outcome: Outcome::Value(number(alloc, 5)?),
-        gives: Some(Par::I64),
-    };
-    assert!(rt; is_replied(alloc, 7, Order::Little, &answer, FIVE_LITTLE)?);
-    assert!(rt; is_replied(alloc, 1, Order::Big, &answer, FIVE_BIG)?);
-    Ok(())
-}
-
-#[test]
-fn texts_in_both_byte_orders(rt: HostRuntime) -> Result<(), NoMemory> {
-    let alloc = rt.alloc();
-    let answer = PortAnswer::Done {
-        outcome: Outcome::Value(text(alloc)?),
-        gives: Some(Par::Text),
-    };
-    assert!(rt; is_replied(alloc, 10, Order::Little, &answer, OK_LITTLE)?);
-    assert!(rt; is_replied(alloc, 10, Order::Big, &answer, OK_BIG)?);
-    Ok(())
-}
-
-fn exception(alloc: Global, name: &[u8]) -> Result<PortAnswer, NoMemory>
-    requires { length name.now < 2 ^ 32 }
-    ensures { IfOk result (CanReply Big) }
-{
-    match Name::of(alloc, name) {
-        Ok(name) => Ok(PortAnswer::Done {
-            outcome: Outcome::User(name),
-            gives: Some(Par::I64),
-        }),
-        Err(_) => Err(NoMemory),
+    match word {
+        "BAD_CONTEXT" => Ok(SysKind::BadContext),
+        "INV_OBJREF" => Ok(SysKind::InvObjref),
+        "IMP_LIMIT" => Ok(SysKind::ImpLimit),
+        _ => Err(RowFault::NoRow),
     }
 }
 
-#[test]
-fn user_exceptions(rt: HostRuntime) -> Result<(), NoMemory> {
-    let alloc = rt.alloc();
-    let queue_empty = exception(alloc, b"QueueEmpty")?;
-    let long = exception(alloc, &[b'n'; 255])?;
-    assert!(rt; is_replied(alloc, 9, Order::Big, &queue_empty, QUEUE_EMPTY)?);
-    assert!(rt; is_replied(alloc, 9, Order::Big, &long, LONG_NAME)?);
-    Ok(())
-}
-
-fn is_system(
-    alloc: Global,
-    id: u32,
-    order: Order,
-    kind: SysKind,
-    minor: u32,
-    text: &str,
-) -> Result<bool, NoMemory>
-    requires { CanReply order (PortAnswer.System (record { kind = kind; minor = minor; completed = No })) }
+fn fault_of(kind: &str, minor: &str) -> Result<SysFault, RowFault>
+    ensures { IfOk result (λ fault. OnUnknown fault.kind IsShortId) }
 {
-    let fault = SysFault {
-        kind,
-        minor,
+    Ok(SysFault {
+        kind: kind_of(kind)?,
+        minor: u32::try_from(number(minor)?)?,
         completed: Completed::No,
-    };
-    is_replied(alloc, id, order, &PortAnswer::System(fault), text)
-}
-
-#[test]
-fn system_exceptions(rt: HostRuntime) -> Result<(), NoMemory> {
-    let alloc = rt.alloc();
-    let (big, little) = (Order::Big, Order::Little);
-    assert!(rt; is_replied(alloc, 0, big, &PortAnswer::NoGroup, NO_GROUP)?);
-    assert!(rt; is_system(alloc, 8, little, SysKind::BadContext, 3, BAD_CONTEXT)?);
-    assert!(rt; is_system(alloc, 3, big, SysKind::InvObjref, 1, INV_OBJREF)?);
-    assert!(rt; is_system(alloc, 4, big, SysKind::ImpLimit, 1, IMP_LIMIT)?);
-    Ok(())
+    })
 }
 
 fn nil(alloc: Global) -> Ior
-    ensures { IsForward Big result }
+    ensures { IsWritable result }
 {
     Ior {
         type_id: Bytes::from_vec(Vec::new(alloc)),
@@ -201,50 +61,162 @@ fn nil(alloc: Global) -> Ior
     }
 }
 
-fn account(alloc: Global) -> Result<Ior, NoMemory>
-    ensures { IfOk result (IsForward Big) }
+// A reference with one IIOP profile.
+fn reference(alloc: Global, type_id: &str, content: &str) -> Result<Ior, RowFault>
+    ensures { IfOk result IsWritable }
 {
+    let content = Bytes::from_vec(bytes_of(alloc, content)?);
     let mut profiles = Vec::new(alloc);
-    let content = Bytes::of(
-        alloc,
-        b"\0\x01\x02\0\0\0\0\x0a127.0.0.1\0\x07\xd0\0\0\0\x0cFTOG\0\0\0\0\0\0\0\x01\0\0\0\0",
-    )?;
     profiles.push(Profile { tag: 0, content })?;
     Ok(Ior {
-        type_id: Bytes::of(alloc, b"IDL:ftc/Account:1.0")?,
+        type_id: text_of(alloc, type_id)?,
         profiles: Profiles::from_vec(profiles),
     })
 }
 
-#[test]
-fn forwards(rt: HostRuntime) -> Result<(), NoMemory> {
-    let alloc = rt.alloc();
-    let answer = PortAnswer::Forward {
-        perm: false,
-        body: account(alloc)?,
-    };
-    assert!(rt; is_replied(alloc, 2, Order::Big, &answer, FORWARD_ACCOUNT)?);
-    for (perm, text) in [(false, FORWARD), (true, FORWARD_PERM)] {
-        let answer = PortAnswer::Forward {
-            perm,
-            body: nil(alloc),
-        };
-        assert!(rt; is_replied(alloc, 2, Order::Big, &answer, text)?);
+fn forward_answer(
+    alloc: Global,
+    order: Order,
+    perm: bool,
+    body: Ior,
+) -> Result<PortAnswer, RowFault>
+    requires { IsWritable body }
+    ensures { IfOk result (CanReply order) }
+{
+    let mut writer = CdrWriter::new(alloc, order, 0);
+    write_ior(&body, &mut writer)?;
+    if writer.bytes().len() > PART_LIMIT {
+        return Err(RowFault::NoRow);
     }
-    Ok(())
+    Ok(PortAnswer::Forward { perm, body })
 }
 
-#[test]
-fn the_other_replies(rt: HostRuntime) -> Result<(), NoMemory> {
-    let alloc = rt.alloc();
-    for (here, text) in [
-        (true, "47494f5001020004000000080000000500000001"),
-        (false, "47494f5001020004000000080000000500000000"),
-    ] {
-        let bytes = locate_reply_bytes(alloc, 5, Order::Big, here)?;
-        assert!(rt; is_hex(alloc, &bytes, text)?);
+fn answer_of(alloc: Global, order: Order, words: &[&str]) -> Result<PortAnswer, RowFault>
+    ensures { IfOk result (CanReply order) }
+{
+    match *words {
+        ["no-group"] => Ok(PortAnswer::NoGroup),
+        ["value", word] => {
+            let (form, par) = form_of(alloc, word)?;
+            Ok(PortAnswer::Done {
+                outcome: Outcome::Value(form),
+                gives: Some(par),
+            })
+        }
+        ["user", word] => Ok(PortAnswer::Done {
+            outcome: Outcome::User(name_of(alloc, word)?),
+            gives: None,
+        }),
+        ["system", kind, minor] => Ok(PortAnswer::System(fault_of(kind, minor)?)),
+        ["forward", "nil"] => forward_answer(alloc, order, false, nil(alloc)),
+        ["forward-perm", "nil"] => forward_answer(alloc, order, true, nil(alloc)),
+        ["forward", type_id, profile] => {
+            forward_answer(alloc, order, false, reference(alloc, type_id, profile)?)
+        }
+        _ => Err(RowFault::NoRow),
     }
+}
+
+/// `reply ORDER ID ANSWER`: the bytes of the Reply with an answer. An answer is `value TYPE:VALUE`, `user NAME`,
+/// `system NAME MINOR`, `no-group`, `forward TYPE PROFILE`, `forward nil` or `forward-perm nil`.
+pub fn reply(alloc: Global, words: &[&str], out: &mut String) -> Result<(), RowFault> {
+    let [order, id, answer @ ..] = words else {
+        return Err(RowFault::NoRow);
+    };
+    let order = order_of(*order)?;
+    let answer = answer_of(alloc, order, answer)?;
+    let bytes = reply_bytes(alloc, u32::try_from(number(*id)?)?, order, &answer)?;
+    Ok(put_hex(bytes.bytes(), out)?)
+}
+
+fn size_of(alloc: Global, answer: &PortAnswer) -> Result<u128, RowFault>
+    requires { CanReply Big answer.now }
+{
+    match answer {
+        PortAnswer::NoGroup => Err(RowFault::NoRow),
+        PortAnswer::Done { outcome, gives } => Ok(outcome_size(*gives, outcome)),
+        PortAnswer::System(fault) => Ok(fault_size(fault)),
+        PortAnswer::Forward { perm: _, body } => Ok(forward_size(alloc, body)?),
+    }
+}
+
+/// `size ANSWER`: the bytes of the Reply with an answer, counted, and of the same Reply written.
+pub fn size(alloc: Global, words: &[&str], out: &mut String) -> Result<(), RowFault> {
+    let answer = answer_of(alloc, Order::Big, words)?;
+    let size = size_of(alloc, &answer)?;
+    let bytes = reply_bytes(alloc, 7, Order::Big, &answer)?;
+    Ok(write!(out, "counted {size}, written {}", bytes.bytes().len())?)
+}
+
+/// `size-exception ORDER BODY`: the bytes of the Reply with a system exception, counted.
+pub fn exception_bytes(alloc: Global, words: &[&str], out: &mut String) -> Result<(), RowFault> {
+    let [order, body] = words else {
+        return Err(RowFault::NoRow);
+    };
+    let body = Raw {
+        order: order_of(*order)?,
+        align: 0,
+        bytes: Bytes::from_vec(bytes_of(alloc, *body)?),
+    };
+    match read_fault(alloc, &body) {
+        Ok(fault) => Ok(write!(out, "counted {}", fault_size(&fault))?),
+        Err(fault) => Ok(write!(out, "refused {fault}")?),
+    }
+}
+
+fn key_of(alloc: Global, client: &str) -> Result<Option<Key>, RowFault> {
+    if client == "-" {
+        return Ok(None);
+    }
+    Ok(Some(Key {
+        client: name_of(alloc, client)?,
+        retention: Retention(1),
+        expiration: Tick(1000),
+    }))
+}
+
+/// `size-request VERSION CLIENT OPERATION ARGUMENTS`: the bytes of a client's Request, counted. A dash stands for no
+/// version, and for no client.
+pub fn request_bytes(alloc: Global, words: &[&str], out: &mut String) -> Result<(), RowFault> {
+    let [version, client, op, args] = words else {
+        return Err(RowFault::NoRow);
+    };
+    let version = match *version {
+        "-" => None,
+        version => Some(Version(u32::try_from(number(version)?)?)),
+    };
+    let request = Request {
+        key: key_of(alloc, *client)?,
+        op: name_of(alloc, *op)?,
+        args: Bytes::from_vec(bytes_of(alloc, *args)?),
+    };
+    let attempt = Attempt {
+        group: GroupId(1),
+        port: 2000,
+        id: 7,
+        version,
+        request,
+    };
+    Ok(write!(out, "counted {}", request_size(&attempt))?)
+}
+
+/// `locate-reply ORDER ID here` or `locate-reply ORDER ID unknown`: the bytes of a LocateReply.
+pub fn locate_reply(alloc: Global, words: &[&str], out: &mut String) -> Result<(), RowFault> {
+    let [order, id, place] = words else {
+        return Err(RowFault::NoRow);
+    };
+    let here = match *place {
+        "here" => true,
+        "unknown" => false,
+        _ => return Err(RowFault::NoRow),
+    };
+    let id = u32::try_from(number(*id)?)?;
+    let bytes = locate_reply_bytes(alloc, id, order_of(*order)?, here)?;
+    Ok(put_hex(bytes.bytes(), out)?)
+}
+
+/// `message-error`: the bytes of a MessageError.
+pub fn message_error(alloc: Global, out: &mut String) -> Result<(), RowFault> {
     let bytes = message_error_bytes(alloc)?;
-    assert!(rt; is_hex(alloc, &bytes, "47494f500102000600000000")?);
-    Ok(())
+    Ok(put_hex(bytes.bytes(), out)?)
 }

@@ -1,5 +1,4 @@
 //! Parameters and results, and their canonical form.
-ghost use Rattle.std.specs.Prelude.{◌≡◌, ◌+◌, ◌<◌, ◌^◌, length, IfOk};
 
 use cdr_codec::{Order, Raw, args_of, canonical, read_one, read_two, result_in};
 use ft_base::{Bytes, Par, Signature, Value};

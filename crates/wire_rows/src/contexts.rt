@@ -1,5 +1,5 @@
 //! Service contexts.
-ghost use Rattle.std.specs.Prelude.{◌+◌, ◌<◌, ◌^◌, length, IfOk};
+ghost use Rattle.std.specs.Prelude.{IfOk};
 ghost use Rattle.std.specs.List.{All};
 ghost use Rattle.ft_contexts.specs.Finding.{IsShort};
 
@@ -57,8 +57,8 @@ pub fn contexts(alloc: Global, words: &[&str], out: &mut String) -> Result<(), R
     }
 }
 
-/// `tell VERSION CLIENT RETENTION EXPIRATION`: the contexts that tell these.
-pub fn tell(alloc: Global, words: &[&str], out: &mut String) -> Result<(), RowFault> {
+/// `write-contexts VERSION CLIENT RETENTION EXPIRATION`: the contexts that tell these.
+pub fn write(alloc: Global, words: &[&str], out: &mut String) -> Result<(), RowFault> {
     let [version, client, retention, expiration] = words else {
         return Err(RowFault::NoRow);
     };

@@ -1,5 +1,4 @@
 //! System exceptions.
-ghost use Rattle.std.specs.Prelude.{◌+◌, ◌<◌, ◌^◌, length};
 
 use cdr_codec::{Order, Raw};
 use ft_base::{Bytes, NoMemory};

@@ -24,7 +24,7 @@ fn answer_value(
         "both" => values::both(alloc, words, out),
         "orders" => values::orders(words, out),
         "encapsulation" => values::encapsulation(alloc, words, out),
-        "begin" => values::begun(alloc, words, out),
+        "begin" => values::begin(alloc, words, out),
         "encapsulate" => values::encapsulate(alloc, words, out),
         "components" => values::components(alloc, words, out),
         "args" => arguments::args(alloc, words, out),
@@ -44,7 +44,7 @@ fn answer_reference(
 ) -> Result<(), RowFault> {
     match verb {
         "contexts" => contexts::contexts(alloc, words, out),
-        "tell" => contexts::tell(alloc, words, out),
+        "write-contexts" => contexts::write(alloc, words, out),
         "reference" => references::reference(alloc, words, out),
         "reference-in" => references::reference_in(alloc, words, out),
         "ior" => references::ior(alloc, words, out),

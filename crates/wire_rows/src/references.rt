@@ -1,5 +1,5 @@
 //! References of objects and of groups.
-ghost use Rattle.std.specs.Prelude.{◌+◌, ◌<◌, ◌^◌, length, IfOk};
+ghost use Rattle.std.specs.Prelude.{◌<◌, length, IfOk};
 ghost use Rattle.iogr_reference.specs.Formats.{IsWritable, AreShort};
 
 use cdr_codec::{CdrReader, CdrWriter};

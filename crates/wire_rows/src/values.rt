@@ -1,5 +1,5 @@
 //! Values, one behind the other.
-ghost use Rattle.std.specs.Prelude.{◌+◌, ◌<◌, ◌^◌, length, IfOk};
+ghost use Rattle.std.specs.Prelude.{IfOk};
 ghost use Rattle.cdr_codec.specs.Encapsulations.{IsEncapsulated};
 
 use cdr_codec::{
@@ -176,22 +176,16 @@ pub fn encapsulation(alloc: Global, words: &[&str], out: &mut String) -> Result<
     }
 }
 
-fn begin(alloc: Global, order: Order, values: &[&str]) -> Result<CdrWriter, RowFault> {
-    let mut writer = begin_encapsulation(alloc, order)?;
-    for value in values {
-        write_one(alloc, *value, &mut writer)?;
-    }
-    Ok(writer)
-}
-
 /// `begin ORDER TYPE:VALUE..`: an encapsulation of these values.
-pub fn begun(alloc: Global, words: &[&str], out: &mut String) -> Result<(), RowFault> {
+pub fn begin(alloc: Global, words: &[&str], out: &mut String) -> Result<(), RowFault> {
     let [order, values @ ..] = words else {
         return Err(RowFault::NoRow);
     };
-    let writer = begin(alloc, order_of(*order)?, values)?;
-    put_hex(writer.bytes(), out)?;
-    Ok(())
+    let mut writer = begin_encapsulation(alloc, order_of(*order)?)?;
+    for value in values {
+        write_one(alloc, *value, &mut writer)?;
+    }
+    Ok(put_hex(writer.bytes(), out)?)
 }
 
 // The key of a request in big endian order: the client ann, retention id 1, expiration 1000.
