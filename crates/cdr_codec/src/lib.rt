@@ -7,24 +7,10 @@
 //! The client's id, the retention id and the expiration of a request's key, written as an encapsulation:
 //!
 //! ```
-//! let mut inner = begin_encapsulation(rt.alloc(), Order::Big)?;
-//! assert_eq!(rt; inner.write_string(b"ann"), Ok(()));
-//! assert_eq!(rt; inner.write_i32(1), Ok(()));
-//! assert_eq!(rt; inner.write_u64(1000), Ok(()));
-//! assert_eq!(rt;
-//!     inner.bytes(),
-//!     b"\0\0\0\0\0\0\0\x04ann\0\0\0\0\x01\0\0\0\0\0\0\x03\xe8".as_slice()
-//! );
-//! ```
-//!
-//! The front of a profile, read:
-//!
-//! ```
-//! let mut reader = open_encapsulation(PROFILE)?;
-//! assert_eq!(rt; reader.read_octet(), Ok(1));
-//! assert_eq!(rt; reader.read_octet(), Ok(2));
-//! assert!(rt; reader.read_string() == Ok(b"127.0.0.1"));
-//! assert_eq!(rt; reader.read_u16(), Ok(2000));
+//! let mut inner = begin_encapsulation(alloc, Order::Big)?;
+//! inner.write_string(b"ann")?;
+//! inner.write_i32(1)?;
+//! inner.write_u64(1000)?;
 //! ```
 #![tactic(auto)]
 

@@ -5,18 +5,14 @@
 //! Both are written, and found again among the contexts of a request:
 //!
 //! ```
-//! let key = Key {
-//!     client: Name::of(rt.alloc(), b"ann")?,
-//!     retention: Retention(1),
-//!     expiration: Tick(1000),
-//! };
-//! let contexts = write_contexts(rt.alloc(), Some(Version(1)), Some(&key))?;
+//! let contexts = write_contexts(alloc, Some(version), Some(&key))?;
 //! ```
 //!
 //! ```
-//! let contexts = list(rt.alloc(), contents)?;
-//! let found = find_contexts(rt.alloc(), &contexts)?;
-//! assert!(rt; found.version == Some(Version(1)));
+//! match find_contexts(alloc, &contexts) {
+//!     Ok(found) => Ok(put_found(&found, out)?),
+//!     Err(fault) => Ok(write!(out, "refused {fault}")?),
+//! }
 //! ```
 #![tactic(auto)]
 

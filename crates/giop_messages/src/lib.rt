@@ -4,19 +4,20 @@
 //! `specs/` say which bytes spell which message, and in which order the causes are judged for which
 //! bytes are none.
 //!
-//! A message that is written, with its bytes in hexadecimal digits, and one that is read from such digits:
+//! A message is read, and written again:
+//!
+//! ```
+//! match read_message(alloc, bytes.as_slice()) {
+//!     Ok((message, order)) => {
+//!         put_message(&message, order, out)?;
+//!         put_again(alloc, &message, order, out)
+//!     }
+//!     Err(fault) => Ok(write!(out, "refused {fault}")?),
+//! }
+//! ```
 //!
 //! ```
 //! let bytes = write_message(alloc, message, order)?;
-//! let text_of = hex::encode(alloc, bytes.bytes())?;
-//! Ok(text_of.as_bytes() == text.as_bytes())
-//! ```
-//!
-//! ```
-//! match hex::decode(alloc, text.as_bytes()) {
-//!     Ok(bytes) if bytes.len() < 1000 => read_message(alloc, bytes.as_slice()),
-//!     _ => Err(ReadFault::NoMemory),
-//! }
 //! ```
 #![tactic(auto)]
 

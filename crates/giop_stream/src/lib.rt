@@ -3,16 +3,16 @@
 //!
 //! `specs/` say it of the whole list of bytes (`stream`); the framer is fed pieces of it.
 //!
-//! A framer that is fed the rest of a request:
+//! A framer gives the messages of what it was fed, one after another:
 //!
 //! ```
-//! framer.feed(&link[cut..])?;
 //! match framer.next() {
-//!     Ok(Some(received)) => {
-//!         assert!(rt; is_balance(&received.0));
-//!         assert!(rt; received.1 == Order::Little);
+//!     Ok(Some(message)) => {
+//!         put_message(&message.0, message.1, out)?;
+//!         out.push_str("; ")?;
 //!     }
-//!     _ => assert!(rt; false, "no request"),
+//!     Ok(None) => return Ok(None),
+//!     Err(fault) => return Ok(Some(fault)),
 //! }
 //! ```
 //!
@@ -20,9 +20,12 @@
 //!
 //! ```
 //! match session.next()? {
-//!     SessionStep::Serve(message) => ids.push(id_of(&message.0))?,
-//!     SessionStep::Wait => return Ok((ids, session.at_end())),
-//!     SessionStep::End(end) => return Ok((ids, end)),
+//!     SessionStep::Serve(message) => {
+//!         put_message(&message.0, message.1, out)?;
+//!         out.push_str("; ")?;
+//!     }
+//!     SessionStep::Wait => return Ok(session.at_end()),
+//!     SessionStep::End(end) => return Ok(end),
 //! }
 //! ```
 #![tactic(auto)]

@@ -2,25 +2,17 @@
 //! chapter 23 makes a reference one of a group. (GIOP chapter, "IOR profiles"; chapter 23, "Object
 //! group references".)
 //!
-//! The reference of a view, whose members have these ports:
+//! The group that a text names, and the object key of a group:
 //!
 //! ```
-//! let ports = Vec::from_slice(alloc, &[2000_u16, 2001, 2002])?;
-//! let ports = Ports::from_vec(ports);
-//! ref_of(alloc, GroupId(1), &type_id, &view, &ports)
+//! match from_text(alloc, text.as_bytes()) {
+//!     Ok(reference) => Ok(put_group_of(alloc, &reference, out)?),
+//!     Err(fault) => Ok(write!(out, "refused {fault}")?),
+//! }
 //! ```
 //!
-//! The group that a text names:
-//!
 //! ```
-//! let Ok(reference) = from_text(alloc, BANK.as_bytes()) else {
-//!     return Err(NoMemory);
-//! };
-//! let Ok(group) = group_ref_of(alloc, &reference) else {
-//!     return Err(NoMemory);
-//! };
-//! assert!(rt; group.domain.bytes() == b"ftc".as_slice());
-//! assert_eq!(rt; group.group.0, 1);
+//! let key = object_key(alloc, GroupId(u64::try_from(number(*group)?)?))?;
 //! ```
 #![tactic(auto)]
 

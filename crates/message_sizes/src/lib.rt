@@ -1,15 +1,11 @@
 //! How many bytes the messages of a script would have in GIOP 1.2, counted without writing them. (GIOP chapter, "GIOP Message Formats".)
 //!
-//! A text of two letters as a Reply, counted and then written:
+//! A Reply is counted, and written beside that:
 //!
 //! ```
-//! let value = Outcome::Value(text(alloc)?);
-//! assert_eq!(rt; outcome_size(gives, &value), 31);
-//! let answer = PortAnswer::Done {
-//!     outcome: value,
-//!     gives,
-//! };
-//! assert_eq!(rt; length_of(alloc, &answer)?, 31);
+//! let size = size_of(alloc, &answer)?;
+//! let bytes = reply_bytes(alloc, 7, Order::Big, &answer)?;
+//! Ok(write!(out, "counted {size}, written {}", bytes.bytes().len())?)
 //! ```
 #![tactic(auto)]
 

@@ -1,16 +1,13 @@
 //! The system exceptions of the ORB: what went wrong, why, and whether the request was run. (CORBA
 //! chapter, "Standard Exceptions".)
 //!
-//! An exception as the body of a reply:
+//! An exception is read from the body of a reply:
 //!
 //! ```
-//! let fault = SysFault {
-//!     kind: SysKind::Transient,
-//!     minor: 1,
-//!     completed: Completed::No,
-//! };
-//! let bytes = write_fault(rt.alloc(), &fault, Order::Big)?;
-//! assert_eq!(rt; bytes.bytes(), TRANSIENT);
+//! match read_fault(alloc, &body) {
+//!     Ok(fault) => put_fault(alloc, body.order, &fault, out),
+//!     Err(fault) => Ok(write!(out, "refused {fault}")?),
+//! }
 //! ```
 #![tactic(auto)]
 
