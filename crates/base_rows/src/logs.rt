@@ -2,11 +2,12 @@
 ghost use Rattle.std.specs.Prelude.{◌≡◌, [], ◌∷◌, Some};
 
 use crate::openings;
-use crate::texts::{self, cut, no_memory};
+use crate::requests::request_of;
 use anyhow::{Context, Result, anyhow, bail};
 use ft_base::{HostNo, Members, Outcome, Request, Tick, Version, View};
 use ft_outside::{Keeper, MemKeeper};
 use message_log::{Admit, Appended, Log, LogFault};
+use octet_words::{first_word, no_memory};
 use std::alloc::Global;
 
 /// The log that lines speak of, and the records of one that was closed.
@@ -18,7 +19,7 @@ pub struct Logs {
 
 /// `log WHAT ..`
 pub fn answer(rt: &HostRuntime, logs: &mut Logs, words: &str) -> Result<()> {
-    let (what, words) = cut(words);
+    let (what, words) = first_word(words);
     match what {
         "new" => begin(rt, logs, words),
         "close" => close(rt, logs),
@@ -87,8 +88,8 @@ fn close(rt: &HostRuntime, logs: &mut Logs) -> Result<()> {
 
 // The clock of a request's host, and the request.
 fn clocked(alloc: Global, words: &str) -> Result<(Tick, Request)> {
-    let (clock, words) = cut(words);
-    let request = texts::request(alloc, words)?;
+    let (clock, words) = first_word(words);
+    let request = request_of(alloc, words)?;
     Ok((Tick(clock.parse::<u64>()?), request))
 }
 
@@ -120,8 +121,8 @@ fn put(rt: &HostRuntime, log: &mut Log<MemKeeper>, words: &str) -> Result<()> {
 
 // `POSITION NAME`: the exception that the entry's reply has
 fn reply(rt: &HostRuntime, log: &mut Log<MemKeeper>, words: &str) -> Result<()> {
-    let (position, user) = cut(words);
-    let outcome = Outcome::User(texts::name(rt.alloc(), user)?);
+    let (position, user) = first_word(words);
+    let outcome = Outcome::User(octet_words::name(rt.alloc(), user)?);
     log.set_reply(position.parse::<u32>()?, outcome);
     Ok(())
 }
@@ -143,9 +144,9 @@ fn next_view(rt: &HostRuntime, log: &mut Log<MemKeeper>) -> Result<()> {
 
 // `CLOCK STATE`
 fn checkpoint(rt: &HostRuntime, log: &mut Log<MemKeeper>, words: &str) -> Result<()> {
-    let (clock, state) = cut(words);
+    let (clock, state) = first_word(words);
     let clock = Tick(clock.parse::<u64>()?);
-    let state = texts::bytes(rt.alloc(), state)?;
+    let state = octet_words::bytes(rt.alloc(), state)?;
     let version = log.newest().version;
     let done = log.checkpoint(rt.alloc(), version, clock, &state);
     print_done(rt, done, "a checkpoint")
@@ -153,7 +154,7 @@ fn checkpoint(rt: &HostRuntime, log: &mut Log<MemKeeper>, words: &str) -> Result
 
 // `VERSION CLOCK REQUEST`: what a request is to the log
 fn admit(rt: &HostRuntime, log: &Log<MemKeeper>, words: &str) -> Result<()> {
-    let (version, words) = cut(words);
+    let (version, words) = first_word(words);
     let (clock, request) = clocked(rt.alloc(), words)?;
     match log.admit(Version(version.parse::<u32>()?), clock, &request) {
         Admit::Deposed(version) => println!(rt; "    deposed by version {}", version.0)?,

@@ -3,27 +3,19 @@
 #![tactic(auto)]
 
 mod logs;
-mod moves;
 mod openings;
 mod records;
-mod servants;
-mod states;
+mod requests;
 mod tables;
-mod texts;
 mod values;
 mod views;
 
-ghost use Rattle.std.specs.Prelude.{◌≡◌, ◌<◌};
-
 use anyhow::{Result, bail};
-use ft_base::Steps;
 use logs::Logs;
 use name_places::NamePlaces;
+use octet_words::first_word;
 use reply_table::ReplyTable;
-use servants::Servants;
 use std::alloc::Global;
-use std::marker::Brand;
-use std::sync::ledger::{Blank, Ledger};
 
 /// What lines leave for the next ones.
 #[derive(Drop)]
@@ -34,7 +26,6 @@ struct Desk {
     table: Option<ReplyTable>,
     record: Vec<u8>,
     logs: Logs,
-    servants: Servants,
 }
 
 fn empty_desk(alloc: Global) -> Desk {
@@ -47,20 +38,11 @@ fn empty_desk(alloc: Global) -> Desk {
             log: None,
             closed: None,
         },
-        servants: Servants {
-            servant: None,
-            base: None,
-        },
     }
 }
 
-fn answer<L: Ledger>(
-    rt: &HostRuntime,
-    desk: &mut Desk,
-    steps: &mut Steps<L>,
-    line: &str,
-) -> Result<()> {
-    let (verb, words) = texts::cut(line);
+fn answer(rt: &HostRuntime, desk: &mut Desk, line: &str) -> Result<()> {
+    let (verb, words) = first_word(line);
     match verb {
         "number" => values::number(rt, words),
         "name" => values::name(rt, words),
@@ -73,43 +55,24 @@ fn answer<L: Ledger>(
         "table" => tables::table(rt, &mut desk.table, words),
         "record" => records::answer(rt, &mut desk.record, words),
         "log" => logs::answer(rt, &mut desk.logs, words),
-        "servant" => servants::answer(rt, &mut desk.servants, steps, words),
         _ => bail!("no verb: {verb}"),
     }
 }
 
 // Writes a line back, and its answer below it.
-fn serve<L: Ledger>(
-    rt: &HostRuntime,
-    desk: &mut Desk,
-    steps: &mut Steps<L>,
-    line: &str,
-) -> Result<()> {
+fn serve(rt: &HostRuntime, desk: &mut Desk, line: &str) -> Result<()> {
     println!(rt; "{line}")?;
     if line.is_empty() || line.starts_with('#') {
         return Ok(());
     }
-    answer(rt, desk, steps, line)
-}
-
-fn serve_all<L: Ledger>(rt: &HostRuntime, desk: &mut Desk, steps: &mut Steps<L>) -> Result<()> {
-    for line in rt.lines(rt.alloc()) {
-        let line = line?;
-        serve(rt, desk, steps, line.as_str())?;
-    }
-    Ok(())
-}
-
-fn run<L: Ledger>(rt: &HostRuntime, blank: Blank) -> Result<()>
-    requires name { blank.name ≡ L.name }
-    requires parts { blank.parts ≡ L.parts }
-    requires some { 0 < blank.parts }
-{
-    let mut steps = Steps::<L>::new(blank);
-    let mut desk = empty_desk(rt.alloc());
-    serve_all(rt, &mut desk, &mut steps)
+    answer(rt, desk, line)
 }
 
 fn main(rt: HostRuntime) -> Result<()> {
-    run::<Brand>(&rt, Blank::new(1))
+    let mut desk = empty_desk(rt.alloc());
+    for line in rt.lines(rt.alloc()) {
+        let line = line?;
+        serve(&rt, &mut desk, line.as_str())?;
+    }
+    Ok(())
 }

@@ -2,11 +2,11 @@
 
 use crate::logs::{Logs, closed};
 use crate::records::put_at;
-use crate::texts::{cut, no_memory, octets, shown, utf8};
 use anyhow::{Result, anyhow};
 use ft_base::{Bytes, NoMemory, Outcome, Request};
 use ft_outside::{Keeper, MemKeeper};
 use message_log::{Log, ReopenFault};
+use octet_words::{first_word, name_text, no_memory, octets, octets_text};
 use reply_table::Retained;
 use std::alloc::Global;
 
@@ -70,7 +70,7 @@ pub fn open(rt: &HostRuntime, logs: &mut Logs) -> Result<()> {
 
 /// `log part FROM TO`: some records of the closed log
 pub fn part(rt: &HostRuntime, keeper: &MemKeeper, words: &str) -> Result<()> {
-    let (from, to) = cut(words);
+    let (from, to) = first_word(words);
     let part = (from.parse::<u64>()?, to.parse::<u64>()?);
     let copy = copied(rt.alloc(), keeper, part, None).map_err(no_memory)?;
     opened(rt, copy)?;
@@ -79,8 +79,8 @@ pub fn part(rt: &HostRuntime, keeper: &MemKeeper, words: &str) -> Result<()> {
 
 /// `log change RECORD PLACE OCTETS`: the closed log with these octets in place of those at a place of a record
 pub fn change(rt: &HostRuntime, keeper: &MemKeeper, words: &str) -> Result<()> {
-    let (record, words) = cut(words);
-    let (place, words) = cut(words);
+    let (record, words) = first_word(words);
+    let (place, words) = first_word(words);
     let patch = Patch {
         record: record.parse::<u64>()?,
         place: place.parse::<usize>()?,
@@ -102,7 +102,7 @@ pub fn show(rt: &HostRuntime, log: &Log<MemKeeper>) -> Result<()> {
         log.newest().version.0
     )?;
     if let Some(state) = log.state() {
-        println!(rt; "    state {}", shown(rt.alloc(), state.bytes())?)?;
+        println!(rt; "    state {}", octets_text(rt.alloc(), state.bytes())?)?;
     }
     for position in log.mark()..log.length() {
         if let Some(request) = log.entry(position) {
@@ -118,8 +118,8 @@ pub fn show(rt: &HostRuntime, log: &Log<MemKeeper>) -> Result<()> {
 }
 
 fn show_entry(rt: &HostRuntime, position: u32, request: &Request) -> Result<()> {
-    let op = utf8(request.op.bytes())?;
-    let args = shown(rt.alloc(), request.args.bytes())?;
+    let op = name_text(request.op.bytes())?;
+    let args = octets_text(rt.alloc(), request.args.bytes())?;
     println!(rt; "    entry {position} {op} {args}")?;
     Ok(())
 }

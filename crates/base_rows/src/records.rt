@@ -1,14 +1,15 @@
 //! Records of a log as bytes: written, read, and changed.
 
-use crate::texts::{self, cut, no_memory, octets, shown};
+use crate::requests::request_of;
 use crate::views;
 use anyhow::{Result, bail};
 use ft_base::{Tick, Version};
 use log_records::{Record, entry_record, record_in, view_record};
+use octet_words::{first_word, no_memory, octets, octets_text};
 
 /// `record WHAT ..`, over the record that was read last.
 pub fn answer(rt: &HostRuntime, last: &mut Vec<u8>, words: &str) -> Result<()> {
-    let (what, words) = cut(words);
+    let (what, words) = first_word(words);
     match what {
         "entry" => entry(rt, words),
         "view" => view(rt, words),
@@ -23,10 +24,10 @@ pub fn answer(rt: &HostRuntime, last: &mut Vec<u8>, words: &str) -> Result<()> {
 
 // `POSITION VERSION TICK REQUEST`
 fn entry(rt: &HostRuntime, words: &str) -> Result<()> {
-    let (position, words) = cut(words);
-    let (version, words) = cut(words);
-    let (tick, words) = cut(words);
-    let request = texts::request(rt.alloc(), words)?;
+    let (position, words) = first_word(words);
+    let (version, words) = first_word(words);
+    let (tick, words) = first_word(words);
+    let request = request_of(rt.alloc(), words)?;
     let position = position.parse::<u32>()?;
     let version = Version(version.parse::<u32>()?);
     let tick = Tick(tick.parse::<u64>()?);
@@ -39,7 +40,7 @@ fn entry(rt: &HostRuntime, words: &str) -> Result<()> {
 fn view(rt: &HostRuntime, words: &str) -> Result<()> {
     let view = views::view(words)?;
     let record = view_record(rt.alloc(), &view).map_err(no_memory)?;
-    println!(rt; "    {}", shown(rt.alloc(), record.bytes())?)?;
+    println!(rt; "    {}", octets_text(rt.alloc(), record.bytes())?)?;
     Ok(())
 }
 
@@ -56,7 +57,7 @@ fn read(rt: &HostRuntime, piece: &[u8]) -> Result<()> {
 
 // `PLACE OCTETS`: these octets in place of those that stand there.
 fn changed(rt: &HostRuntime, piece: &[u8], words: &str) -> Result<()> {
-    let (place, words) = cut(words);
+    let (place, words) = first_word(words);
     let octets = octets(rt.alloc(), words)?;
     let mut bytes = Vec::from_slice(rt.alloc(), piece)?;
     put_at(

@@ -1,11 +1,11 @@
 //! The places of names, and a table of two retained requests.
 ghost use Rattle.std.specs.Prelude.{◌≡◌, false, IfOk};
 
-use crate::texts::{self, cut, no_memory};
-use crate::values::print_outcome;
+use crate::requests::request_of;
 use anyhow::{Context, Result, bail};
 use ft_base::{NoMemory, Outcome, Request, Tick, Version};
 use name_places::NamePlaces;
+use octet_words::{first_word, no_memory, outcome_text};
 use reply_table::{Found, ReplyTable};
 use std::alloc::Global;
 
@@ -16,8 +16,8 @@ pub fn place(
     count: &mut usize,
     words: &str,
 ) -> Result<()> {
-    let (what, word) = cut(words);
-    let name = texts::name(rt.alloc(), word)?;
+    let (what, word) = first_word(words);
+    let name = octet_words::name(rt.alloc(), word)?;
     match what {
         "add" => {
             places.reserve(rt.alloc(), &name).map_err(no_memory)?;
@@ -45,11 +45,11 @@ fn filled(alloc: Global, first: Request, second: Request) -> Result<ReplyTable, 
 
 /// `table WHAT ..`
 pub fn table(rt: &HostRuntime, kept: &mut Option<ReplyTable>, words: &str) -> Result<()> {
-    let (what, words) = cut(words);
+    let (what, words) = first_word(words);
     if what == "new" {
         let (first, second) = words.split_once(", ").context("no two requests")?;
-        let first = texts::request(rt.alloc(), first)?;
-        let second = texts::request(rt.alloc(), second)?;
+        let first = request_of(rt.alloc(), first)?;
+        let second = request_of(rt.alloc(), second)?;
         let table = filled(rt.alloc(), first, second).map_err(no_memory)?;
         println!(rt; "    {} retained", table.len())?;
         *kept = Some(table);
@@ -67,8 +67,8 @@ pub fn table(rt: &HostRuntime, kept: &mut Option<ReplyTable>, words: &str) -> Re
 
 // `NOW REQUEST`
 fn find(rt: &HostRuntime, table: &ReplyTable, words: &str) -> Result<()> {
-    let (now, words) = cut(words);
-    let request = texts::request(rt.alloc(), words)?;
+    let (now, words) = first_word(words);
+    let request = request_of(rt.alloc(), words)?;
     match table.find(&request, Tick(now.parse::<u64>()?)) {
         Found::Same(position) => println!(rt; "    a repeat of entry {position}")?,
         Found::Other(position) => println!(rt; "    other than entry {position}")?,
@@ -79,8 +79,8 @@ fn find(rt: &HostRuntime, table: &ReplyTable, words: &str) -> Result<()> {
 
 // `POSITION OCTETS`: the value that the entry's reply has
 fn set(rt: &HostRuntime, table: &mut ReplyTable, words: &str) -> Result<()> {
-    let (position, value) = cut(words);
-    let value = texts::bytes(rt.alloc(), value)?;
+    let (position, value) = first_word(words);
+    let value = octet_words::bytes(rt.alloc(), value)?;
     table.set_reply(position.parse::<u32>()?, Outcome::Value(value));
     Ok(())
 }
@@ -88,9 +88,10 @@ fn set(rt: &HostRuntime, table: &mut ReplyTable, words: &str) -> Result<()> {
 // `POSITION`
 fn reply(rt: &HostRuntime, table: &ReplyTable, words: &str) -> Result<()> {
     match table.reply(words.parse::<u32>()?) {
-        Some(outcome) => print_outcome(rt, outcome),
-        None => Ok(println!(rt; "    no reply")?),
+        Some(outcome) => println!(rt; "    {}", outcome_text(rt.alloc(), outcome)?)?,
+        None => println!(rt; "    no reply")?,
     }
+    Ok(())
 }
 
 // `TICK`: what expires by then goes

@@ -1,10 +1,11 @@
 //! Values of ft_base, their copies, and numbers as texts.
 
-use crate::texts::{self, no_memory, octets, shown, utf8};
+use crate::requests::request_of;
 use crate::views::{self, print_view};
 use anyhow::{Context, Result, bail};
 use decimal_numbers::{is_number, read_number};
 use ft_base::{Bytes, Name, Outcome, Request};
+use octet_words::{name_text, no_memory, octets, octets_text, outcome_text};
 
 /// `number "TEXT"`
 pub fn number(rt: &HostRuntime, words: &str) -> Result<()> {
@@ -61,7 +62,7 @@ fn copied_bytes(rt: &HostRuntime, bytes: &Bytes, text: &[u8]) -> Result<()> {
 
 /// `request CLIENT RETENTION EXPIRATION OP OCTETS`: its copy
 pub fn request(rt: &HostRuntime, words: &str) -> Result<()> {
-    let request = texts::request(rt.alloc(), words)?;
+    let request = request_of(rt.alloc(), words)?;
     let copy = request.copy(rt.alloc()).map_err(no_memory)?;
     print_request(rt, &copy)
 }
@@ -70,37 +71,28 @@ fn print_request(rt: &HostRuntime, request: &Request) -> Result<()> {
     let key = request.key.as_ref().context("no key")?;
     println!(rt;
         "    client {} retention {} expiration {}",
-        utf8(key.client.bytes())?,
+        name_text(key.client.bytes())?,
         key.retention.0,
         key.expiration.0
     )?;
-    let args = shown(rt.alloc(), request.args.bytes())?;
-    println!(rt; "    {} {args}", utf8(request.op.bytes())?)?;
+    let args = octets_text(rt.alloc(), request.args.bytes())?;
+    println!(rt; "    {} {args}", name_text(request.op.bytes())?)?;
     Ok(())
 }
 
 /// `value OCTETS`: its copy
 pub fn value(rt: &HostRuntime, words: &str) -> Result<()> {
-    let bytes = texts::bytes(rt.alloc(), words)?;
+    let bytes = octet_words::bytes(rt.alloc(), words)?;
     let copy = Outcome::Value(bytes).copy(rt.alloc()).map_err(no_memory)?;
-    print_outcome(rt, &copy)
+    println!(rt; "    {}", outcome_text(rt.alloc(), &copy)?)?;
+    Ok(())
 }
 
 /// `user NAME`: its copy
 pub fn user(rt: &HostRuntime, words: &str) -> Result<()> {
-    let name = texts::name(rt.alloc(), words)?;
+    let name = octet_words::name(rt.alloc(), words)?;
     let copy = Outcome::User(name).copy(rt.alloc()).map_err(no_memory)?;
-    print_outcome(rt, &copy)
-}
-
-pub fn print_outcome(rt: &HostRuntime, outcome: &Outcome) -> Result<()> {
-    match outcome {
-        Outcome::Value(value) => {
-            let value = shown(rt.alloc(), value.bytes())?;
-            println!(rt; "    value {value}")?;
-        }
-        Outcome::User(name) => println!(rt; "    user {}", utf8(name.bytes())?)?,
-    }
+    println!(rt; "    {}", outcome_text(rt.alloc(), &copy)?)?;
     Ok(())
 }
 

@@ -1,8 +1,8 @@
 //! Views as words.
 
-use crate::texts::cut;
 use anyhow::{Result, bail};
 use ft_base::{HostNo, MEMBER_LIMIT, Members, Version, View};
+use octet_words::first_word;
 
 // Hosts joined by commas; one that is a member already is passed over.
 fn members(words: &str) -> Result<Members> {
@@ -22,8 +22,8 @@ fn members(words: &str) -> Result<Members> {
 
 /// The view that words say: `VERSION HOSTS PRIMARY`.
 pub fn view(words: &str) -> Result<View> {
-    let (version, words) = cut(words);
-    let (hosts, primary) = cut(words);
+    let (version, words) = first_word(words);
+    let (hosts, primary) = first_word(words);
     Ok(View {
         version: Version(version.parse::<u32>()?),
         members: members(hosts)?,

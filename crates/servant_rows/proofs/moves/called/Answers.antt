@@ -1,4 +1,4 @@
-use Rattle.base_rows.proofs.moves.called.Goals as goal
+use Rattle.servant_rows.proofs.moves.called.Goals as goal
 
 -- by the one request
 pub returns-clause-reached : goal.returns-clause-reached

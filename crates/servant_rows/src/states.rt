@@ -1,8 +1,8 @@
 //! States and updates of servants.
 
-use crate::texts::{bytes, cut, no_memory, octets, shown};
 use anyhow::{Result, bail};
 use ft_base::{Bytes, NoMemory, Servant, StateFault, UpdateFault};
+use octet_words::{bytes, first_word, no_memory, octets, octets_text};
 use shipped_servants::{Kind, Shipped};
 use std::alloc::Global;
 
@@ -21,7 +21,7 @@ pub fn answer(rt: &HostRuntime, servant: &mut Shipped, what: &str, words: &str) 
 
 pub fn print_state<S: Servant>(rt: &HostRuntime, servant: &S) -> Result<()> {
     let state = servant.get_state(rt.alloc()).map_err(no_memory)?;
-    println!(rt; "    state {}", shown(rt.alloc(), state.bytes())?)?;
+    println!(rt; "    state {}", octets_text(rt.alloc(), state.bytes())?)?;
     Ok(())
 }
 
@@ -70,7 +70,7 @@ fn keys(alloc: Global, count: u32) -> Result<Bytes> {
 
 // `POPPED COUNT`: a queue of so many items, from which so many were popped
 fn items(alloc: Global, words: &str) -> Result<Bytes> {
-    let (popped, count) = cut(words);
+    let (popped, count) = first_word(words);
     let popped = popped.parse::<u64>()?;
     let count = count.parse::<u16>()?;
     let mut bytes = Vec::new(alloc);
@@ -85,7 +85,7 @@ fn items(alloc: Global, words: &str) -> Result<Bytes> {
 // `KEY VALUE`: this one pair, as an update and as a state of a new store. The count of a state, or both counts of an
 // update, are the same four octets.
 fn pair(rt: &HostRuntime, words: &str) -> Result<()> {
-    let (key, value) = cut(words);
+    let (key, value) = first_word(words);
     let bytes = one_pair(rt.alloc(), key, value)?;
     let mut store = Shipped::open(rt.alloc(), Kind::Store).map_err(no_memory)?;
     let updated = store.set_update(rt.alloc(), &bytes);
@@ -124,7 +124,7 @@ fn has_state_of(alloc: Global, servant: &Shipped, other: &Shipped) -> Result<boo
 /// The base is led to the servant's state, by the update between the two.
 pub fn follow(rt: &HostRuntime, servant: &Shipped, base: &mut Shipped) -> Result<()> {
     let update = update_of(rt.alloc(), servant, base).map_err(no_memory)?;
-    println!(rt; "    update {}", shown(rt.alloc(), update.bytes())?)?;
+    println!(rt; "    update {}", octets_text(rt.alloc(), update.bytes())?)?;
     let updated = base.set_update(rt.alloc(), &update);
     print_updated(rt, updated)?;
     if !has_state_of(rt.alloc(), servant, base).map_err(no_memory)? {

@@ -1,4 +1,4 @@
-use Rattle.base_rows.proofs.main.Given as goal
+use Rattle.servant_rows.proofs.main.Given as goal
 
 -- the counter is in a ledger of its own
 abbrev pub ghosts-run : goal.ghosts-run

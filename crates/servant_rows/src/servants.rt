@@ -4,11 +4,10 @@ ghost use Rattle.ft_base.specs.Machine.{Fits};
 
 use crate::moves::moved;
 use crate::states;
-use crate::texts::{self, cut, no_memory, octets};
-use crate::values::print_outcome;
 use anyhow::{Context, Result, bail};
 use cdr_codec::{CdrWriter, Order, Raw, args_of};
 use ft_base::{Bytes, Par, Request, Servant, Signature, Steps};
+use octet_words::{first_word, name, no_memory, octets, outcome_text};
 use shipped_servants::{Kind, Shipped};
 use std::alloc::Global;
 use std::sync::ledger::Ledger;
@@ -27,7 +26,7 @@ pub fn answer<L: Ledger>(
     steps: &mut Steps<L>,
     words: &str,
 ) -> Result<()> {
-    let (what, words) = cut(words);
+    let (what, words) = first_word(words);
     if what == "new" {
         return begin(rt, servants, words);
     }
@@ -66,7 +65,7 @@ fn begin(rt: &HostRuntime, servants: &mut Servants, words: &str) -> Result<()> {
 
 // `OP`: how many parameters it has
 fn signature(rt: &HostRuntime, servant: &Shipped, words: &str) -> Result<()> {
-    let op = texts::name(rt.alloc(), words)?;
+    let op = name(rt.alloc(), words)?;
     let signature = servant.signature(&op).context("no such operation")?;
     let count = u8::from(signature.first.is_some()) + u8::from(signature.second.is_some());
     println!(rt; "    {count} parameters")?;
@@ -89,7 +88,7 @@ fn write_argument(alloc: Global, writer: &mut CdrWriter, par: Par, word: &str) -
 }
 
 fn body_of(alloc: Global, signature: &Signature, words: &str) -> Result<Bytes> {
-    let (first, second) = cut(words);
+    let (first, second) = first_word(words);
     let mut writer = CdrWriter::new(alloc, Order::Big, 0);
     if let Some(par) = signature.first {
         write_argument(alloc, &mut writer, par, first)?;
@@ -104,8 +103,8 @@ fn body_of(alloc: Global, signature: &Signature, words: &str) -> Result<Bytes> {
 fn request_of<S: Servant>(alloc: Global, servant: &S, words: &str) -> Result<Request>
     ensures { IfOk result (λ request. Fits (S.machine (S.kind servant.now)) request) }
 {
-    let (op, words) = cut(words);
-    let op = texts::name(alloc, op)?;
+    let (op, words) = first_word(words);
+    let op = name(alloc, op)?;
     let signature = servant.signature(&op).context("no such operation")?;
     let bytes = body_of(alloc, &signature, words)?;
     if bytes.bytes().len() > 1_000_000 {
@@ -154,5 +153,6 @@ fn call<L: Ledger>(
     let outcome = servant
         .invoke(rt.alloc(), &request, steps)
         .map_err(no_memory)?;
-    print_outcome(rt, &outcome)
+    println!(rt; "    {}", outcome_text(rt.alloc(), &outcome)?)?;
+    Ok(())
 }
