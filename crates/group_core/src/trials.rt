@@ -204,7 +204,8 @@ fn act<S: Servant + Drop, L: Ledger>(
 {
     let answer = trial.core.act(alloc, event, steps);
     let told = told(&answer);
-    trial.sent = sent_by(alloc, answer)?;
+    let out = sent_by(alloc, answer)?;
+    trial.sent = out;
     Ok(told)
 }
 

@@ -11,4 +11,4 @@ returns g c =
     let some = c.requires.some in
     let agrees = c.requires.may some.group some.stands in
     let acted = c.act-answer.ensures.acted some.group some.stands agrees in
-    goes_on g.S.Servant.machine some.group c.act-answer.new.self c.args.event c.act-answer.result _ _ acted c.in_ok-sent_by.ensures
+    goes_on g.S.Servant.machine some.group c.act-answer.new.self c.args.event c.act-answer.result _ _ acted c.in_ok-out.ensures
