@@ -1,16 +1,16 @@
 -- A script that is made runs as its text does, but for what its lines print.
-use Rattle.std.proofs.Common.{◌≡◌, ℕ, ◌+◌, Bool, true, false, List, [], ◌∷◌, length, refl, sym, ap, subst, if◌then◌else◌, nat_lt, Option}
-use Rattle.std.proofs.lemmas.List.{append-nil}
+use Rattle.std.proofs.Common.{◌≡◌, ℕ, ◌+◌, Bool, true, false, List, [], ◌∷◌, length, refl, ap, subst, if◌then◌else◌, nat_lt, Option}
 use Rattle.fault_script.specs.declared.lines.LineFault.{LineFault}
 use Rattle.made_scripts.specs.Scripts.{script_text}
 use Rattle.script_pieces.specs.Feeds.{IsGain}
 use Rattle.script_pieces.specs.Runs.{LineEffect, Goes, Stops, RunEffect, lines_of, onward, run, run_of_lines, refusal, script_limit, text_of}
 use Rattle.script_world.specs.World.{World}
-use Rattle.run_top.specs.Headline.{IsFrontGain, error_text, status_of}
+use Rattle.run_top.specs.Headline.{IsPrefixGain, error_text, status_of}
 use Rattle.run_top.specs.Laws.{MadeRunsAreRuns}
 use Rattle.run_top.specs.Making.{Tally, counted, fresh, tallied}
 use Rattle.run_top.specs.Making as making
 use Rattle.run_top.specs.Playing as script
+use Rattle.run_top.proofs.EndLemmas.{whole_is_prefix}
 
 -- two runs refuse the same line, and call servants as often
 record IsLike (a b : RunEffect LineFault) : Type 0 where
@@ -53,14 +53,10 @@ made_runs_are_runs rounds =
       calls = like.calls;
     }
 
--- all of the output of a made script is a front of it
-pub all_is_front : (t : Tally) (rounds : ℕ) (text : List ℕ) (before holds : Option (List ℕ)) → t ≡ fresh rounds → text ≡ script_text rounds
+-- all of the output of a made script is a prefix of it
+pub all_is_prefix : (t : Tally) (rounds : ℕ) (text : List ℕ) (before holds : Option (List ℕ)) → t ≡ fresh rounds → text ≡ script_text rounds
     → IsGain before holds (run making.rules t text).out
-    → IsFrontGain before holds (run making.rules (fresh rounds) (script_text rounds)).out
-all_is_front t rounds text before holds is_fresh is_text gain =
-    let fresh_gain = subst (λ (u : Tally). IsGain before holds (run making.rules u text).out) is_fresh gain in (
-      (run making.rules (fresh rounds) (script_text rounds)).out,
-      [],
-      sym (append-nil (run making.rules (fresh rounds) (script_text rounds)).out),
-      subst (λ (xs : List ℕ). IsGain before holds (run making.rules (fresh rounds) xs).out) is_text fresh_gain,
-    )
+    → IsPrefixGain before holds (run making.rules (fresh rounds) (script_text rounds)).out
+all_is_prefix t rounds text before holds is_fresh is_text gain =
+    let fresh_gain = subst (λ (u : Tally). IsGain before holds (run making.rules u text).out) is_fresh gain in
+    whole_is_prefix before holds _ (subst (λ (xs : List ℕ). IsGain before holds (run making.rules (fresh rounds) xs).out) is_text fresh_gain)

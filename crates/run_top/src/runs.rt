@@ -1,10 +1,6 @@
-ghost use Rattle.std.specs.Prelude.{◌≡◌, ◌≢◌, ℕ, ◌+◌, ◌-◌, ◌^◌, ◌<◌, ◌≤◌, ◌↔◌, ◌⊎◌, ◌++◌, ◌==◌, if◌then◌else◌, [], ◌∷◌, codes, map, IfOk, IfSome, IsTrue, string_bytes, None};
-ghost use Rattle.std.specs.String.{string_bytes};
+ghost use Rattle.std.specs.Prelude.{◌≡◌, ◌≢◌, ◌⊎◌, IfOk};
 ghost use Rattle.ft_outside.specs.Outside.{next_count};
-ghost use Rattle.script_pieces.specs.Feeds.{IsGain};
-ghost use Rattle.script_pieces.specs.Scripts.{IsAtEnd, bytes_read};
-ghost use Rattle.run_top.specs.Headline.{IsFinal, IsFrontGain, IfBroken, IfEnded, IfFault, IfRan, IfStopped, IfUnread, IsStatus, IsTold, made_run, no_memory_text, refusal_text, run_of_whole_lines, script_run};
-ghost use Rattle.run_top.specs.Words.{IfMake, IsMake, IsRun};
+ghost use Rattle.run_top.specs.Headline.{IfBroken, IfEnded, IfFault, IsBroken, IsDone, IsProgramRun, IsStatus, IsTold, made_run, no_memory_text, refusal_text, sinks};
 
 use crate::making::Made;
 use crate::playing::Script;
@@ -70,15 +66,14 @@ fn run_made<B: Sink, E: Sink, L: Ledger>(
     ensures statuses { IsStatus result }
     ensures used { result ≢ 2 }
     ensures unread { result ≢ 4 }
-    ensures status { IfEnded result (result ≡ (made_run rounds).status) }
-    ensures output { IfEnded result (IsGain (B.holds out.old) (B.holds out.new) (made_run rounds).out) }
-    ensures errors { IfEnded result (IsTold (E.holds err.old) (E.holds err.new) (E.count err.old) (E.count err.new)
-        (made_run rounds).err) }
-    ensures calls { IfEnded result (steps.new ≡ steps.old + (made_run rounds).calls) }
+    ensures done { IfEnded result (IsDone result (made_run rounds)
+        (sinks (B.holds out.old) (B.count out.old) (E.holds err.old) (E.count err.old) steps.old)
+        (sinks (B.holds out.new) (B.count out.new) (E.holds err.new) (E.count err.new) steps.new)) }
+    ensures broken { IfBroken result (IsBroken (made_run rounds)
+        (sinks (B.holds out.old) (B.count out.old) (E.holds err.old) (E.count err.old) steps.old)
+        (sinks (B.holds out.new) (B.count out.new) (E.holds err.new) (E.count err.new) steps.new)) }
     ensures write_fault { result ≡ 5 → B.count out.new ≡ next_count (B.count out.old) }
     ensures no_write_fault { result ≢ 5 → B.count out.new ≡ B.count out.old }
-    ensures front_output { IfBroken result (IsFrontGain (B.holds out.old) (B.holds out.new) (made_run rounds).out) }
-    ensures front_calls { IfBroken result (steps.new ≤ steps.old + (made_run rounds).calls) }
     ensures fault_text { IfFault result (λ text.
         IsTold (E.holds err.old) (E.holds err.new) (E.count err.old) (E.count err.new) text) }
 {
@@ -108,7 +103,7 @@ fn run_made<B: Sink, E: Sink, L: Ledger>(
 /// | 3 | a line was refused |
 /// | 4 | the source failed |
 /// | 5 | the sink of output failed |
-/// | 6 | want of memory |
+/// | 6 | out of memory |
 pub fn ftc_run<A: Source, B: Sink, E: Sink, L: Ledger>(
     alloc: Global,
     words: &[String],
@@ -117,70 +112,31 @@ pub fn ftc_run<A: Source, B: Sink, E: Sink, L: Ledger>(
     err: &mut E,
     steps: &mut Steps<L>,
 ) -> u8
-    // No other status is answered.
-    ensures statuses { IsStatus result }
-    ensures usage { (result ≡ 2) ↔ ((¬ IsRun words.now) × (¬ IsMake words.now)) }
-
-    // `run`, where the source tells what it has left: at status 0 or 3 the run is that of the bytes read.
-    ensures status { IsRun words.now → IfRan result (A.left input.old) (result ≡
-        (script_run (bytes_read (A.left input.old) (A.left input.new))).status) }
-    ensures output { IsRun words.now → IfRan result (A.left input.old) (IsGain (B.holds out.old) (B.holds out.new)
-        (script_run (bytes_read (A.left input.old) (A.left input.new))).out) }
-    ensures errors { IsRun words.now → IfRan result (A.left input.old) (IsTold (E.holds err.old) (E.holds err.new) (E.count err.old) (E.count err.new)
-        (script_run (bytes_read (A.left input.old) (A.left input.new))).err) }
-    ensures calls { IsRun words.now → IfRan result (A.left input.old) (steps.new ≡ steps.old +
-        (script_run (bytes_read (A.left input.old) (A.left input.new))).calls) }
-
-    // At 0 the source is at its end. At 3 the refusal stands whatever follows, or the source is at its end.
-    ensures at_end { IsRun words.now → result ≡ 0 → IsAtEnd (A.left input.new) }
-    ensures settled { IsRun words.now → result ≡ 3 → IfSome (A.left input.old) (λ _. IsFinal
-        (bytes_read (A.left input.old) (A.left input.new)) (A.left input.new)) }
-
-    // A fault is answered exactly where its object failed once.
-    ensures read_fault { result ≡ 4 → A.count input.new ≡ next_count (A.count input.old) }
-    ensures no_read_fault { result ≢ 4 → A.count input.new ≡ A.count input.old }
-    ensures write_fault { result ≡ 5 → B.count out.new ≡ next_count (B.count out.old) }
-    ensures no_write_fault { result ≢ 5 → B.count out.new ≡ B.count out.old }
-
-    // Where the source failed, what is out is the output of the lines that were read whole.
-    ensures whole_output { IsRun words.now → IfUnread result (A.left input.old) (IsGain (B.holds out.old) (B.holds out.new)
-        (run_of_whole_lines (bytes_read (A.left input.old) (A.left input.new))).out) }
-    ensures whole_calls { IsRun words.now → IfUnread result (A.left input.old) (steps.new ≡ steps.old +
-        (run_of_whole_lines (bytes_read (A.left input.old) (A.left input.new))).calls) }
-
-    // None of them was refused.
-    ensures whole_unrefused { IsRun words.now → IfUnread result (A.left input.old)
-        ((run_of_whole_lines (bytes_read (A.left input.old) (A.left input.new))).refused ≡ None) }
-
-    // Where the output failed or memory was wanted, what is out is a front of the run's output, and no more
-    // calls were made than the run has.
-    ensures front_output { IsRun words.now → IfStopped result (A.left input.old) (IsFrontGain (B.holds out.old) (B.holds out.new)
-        (script_run (bytes_read (A.left input.old) (A.left input.new))).out) }
-    ensures front_calls { IsRun words.now → IfStopped result (A.left input.old) (steps.new ≤ steps.old +
-        (script_run (bytes_read (A.left input.old) (A.left input.new))).calls) }
-
-    // `run --make N`: the run is that of the script of N rounds, and nothing is read.
-    ensures made_status { IfMake words.now (λ rounds. IfEnded result (result ≡ (made_run rounds).status)) }
-    ensures made_output { IfMake words.now (λ rounds. IfEnded result (IsGain (B.holds out.old) (B.holds out.new)
-        (made_run rounds).out)) }
-    ensures made_errors { IfMake words.now (λ rounds. IfEnded result (IsTold (E.holds err.old) (E.holds err.new)
-        (E.count err.old) (E.count err.new) (made_run rounds).err)) }
-    ensures made_calls { IfMake words.now (λ rounds. IfEnded result (steps.new ≡ steps.old + (made_run rounds).calls)) }
-    ensures made_front { IfMake words.now (λ rounds. IfBroken result (IsFrontGain (B.holds out.old) (B.holds out.new)
-        (made_run rounds).out)) }
-    ensures made_front_calls { IfMake words.now (λ rounds. IfBroken result (steps.new ≤ steps.old + (made_run rounds).calls)) }
-    ensures made_unread { IsMake words.now → A.left input.new ≡ A.left input.old }
-
-    // What the sink of errors is told otherwise, and that faulty words do nothing else.
-    ensures fault_text { IfFault result (λ text.
-        IsTold (E.holds err.old) (E.holds err.new) (E.count err.old) (E.count err.new) text) }
-    ensures untouched { result ≡ 2 → (B.holds out.new ≡ B.holds out.old) × (steps.new ≡ steps.old) × (A.left input.new ≡ A.left input.old) }
+    ensures run { IsProgramRun words.now result
+        (record {
+          left = A.left input.old;
+          read_faults = A.count input.old;
+          out = B.holds out.old;
+          write_faults = B.count out.old;
+          err = E.holds err.old;
+          error_faults = E.count err.old;
+          calls = steps.old;
+        })
+        (record {
+          left = A.left input.new;
+          read_faults = A.count input.new;
+          out = B.holds out.new;
+          write_faults = B.count out.new;
+          err = E.holds err.new;
+          error_faults = E.count err.new;
+          calls = steps.new;
+        }) }
 {
     if !is_run(words) {
-        return match rounds_in(words) {
-            Some(rounds) => run_made(alloc, rounds, out, err, steps),
-            None => end(err, 2, USAGE),
+        let Some(rounds) = rounds_in(words) else {
+            return end(err, 2, USAGE);
         };
+        return run_made(alloc, rounds, out, err, steps);
     }
     let Ok(mut script) = Script::new(alloc) else {
         return end(err, 6, b"ftc: no memory\n");
