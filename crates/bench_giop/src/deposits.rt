@@ -5,7 +5,7 @@ ghost use Rattle.bench_giop.specs.Deposits.{IsDeposit};
 use cdr_codec::{Order, Raw};
 use ft_base::{Bytes, NoMemory};
 use ft_contexts::Contexts;
-use giop_messages::{Message, RequestMsg, write_message};
+use giop_messages::{Form, Message, RequestMsg, write_message};
 use std::alloc::Global;
 
 /// The number of bytes of each request.
@@ -48,7 +48,11 @@ fn number(message: &mut Message, id: u32)
 fn write_deposit(alloc: Global, message: &Message) -> Result<Bytes, NoMemory>
     requires { IsDeposit message.now }
 {
-    write_message(alloc, message, Order::Big)
+    let form = Form {
+        minor: 2,
+        order: Order::Big,
+    };
+    write_message(alloc, message, form)
 }
 
 /// So many requests back to back, with ids from 0.

@@ -16,7 +16,7 @@ fn id_of(message: &Message) -> u32 {
 fn read_id(alloc: Global, text: &[u8]) -> Result<u32, ReadFault>
     requires { length text.now < 1000 }
 {
-    let (message, _order) = read_message(alloc, text)?;
+    let (message, _form) = read_message(alloc, text)?;
     Ok(id_of(&message))
 }
 

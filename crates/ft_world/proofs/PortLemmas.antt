@@ -5,6 +5,7 @@ use Rattle.fault_script.specs.declared.lines.LineFault.TheVariants.{Unknown}
 use Rattle.ft_base.specs.declared.memory.NoMemory.{NoMemory}
 use Rattle.ft_base.specs.declared.numbers.HostNo.{HostNo}
 use Rattle.cdr_codec.specs.declared.orders.Order.{Order}
+use Rattle.giop_messages.specs.declared.forms.Form.{Form}
 use Rattle.ft_report.specs.declared.reports.ReportLine.{ReportLine}
 use Rattle.ft_report.specs.declared.reports.ReportLine.TheVariants as reports
 use Rattle.giop_stream.specs.declared.sessions.StreamEnd.{StreamEnd}
@@ -73,17 +74,17 @@ written_is host w lines calls (Some bytes) = ap (λ (n : ℕ). effect w (lines +
 
 -- ---- what a message calls for
 
-module _ (w : World) (host : ℕ) (order : Order) (report : List ReportLine) (before : ℕ) where
+module _ (w : World) (host : ℕ) (form : Form) (report : List ReportLine) (before : ℕ) where
   module _ (id flags : ℕ) (key : List ℕ) (asked : Asked) where
     -- it was asked and answered, and this was written
     pub ask_changes : (said : Said) (new : World) (mid after : List ReportLine) (now : ℕ) (bytes : Option (List ℕ)) →
         IsAsked (λ e reply. ask_group e host asked reply (group_keyed e.world key)) said w new report mid before now →
-        bytes ≡ reply_of id flags order said.answer → after ≡ mid ++ (bytes_lines bytes ++ said.orders) →
-        IsChange (λ e. called (world_port host) e order (Ask id flags key asked)) w new report after before now
+        bytes ≡ reply_of id flags form said.answer → after ≡ mid ++ (bytes_lines bytes ++ said.orders) →
+        IsChange (λ e. called (world_port host) e form (Ask id flags key asked)) w new report after before now
     ask_changes said new mid after now bytes a are lines = record {
       calls = a.calls;
       is = λ so_far.
-          a.is so_far (reply_of id flags order)
+          a.is so_far (reply_of id flags form)
           ∙ ap (λ (x : Option (List ℕ)). effect new (mid ++ (bytes_lines x ++ said.orders)) (so_far + a.calls)) (sym are)
           ∙ ap (λ (ls : List ReportLine). effect new ls (so_far + a.calls)) (sym lines);
       counted = a.counted;
@@ -92,43 +93,43 @@ module _ (w : World) (host : ℕ) (order : Order) (report : List ReportLine) (be
     -- memory was wanted in it
     pub ask_short : (now : ℕ) →
         ((so_far : ℕ) (reply : Replying) → so_far + now ≤ before + (ask_group (effect w report so_far) host asked reply (group_keyed w key)).calls) →
-        IsWithin (λ e. called (world_port host) e order (Ask id flags key asked)) w report before now
-    ask_short now short = λ so_far. short so_far (reply_of id flags order)
+        IsWithin (λ e. called (world_port host) e form (Ask id flags key asked)) w report before now
+    ask_short now short = λ so_far. short so_far (reply_of id flags form)
 
     -- memory was wanted behind it
     pub ask_stopped : (said : Said) (new : World) (mid : List ReportLine) (now : ℕ) →
         IsAsked (λ e reply. ask_group e host asked reply (group_keyed e.world key)) said w new report mid before now →
-        IsWithin (λ e. called (world_port host) e order (Ask id flags key asked)) w report before now
+        IsWithin (λ e. called (world_port host) e form (Ask id flags key asked)) w report before now
     ask_stopped said new mid now a = λ so_far.
-        omega (arith, a.counted, ap (λ (e : Effect). e.calls) (a.is so_far (reply_of id flags order)))
+        omega (arith, a.counted, ap (λ (e : Effect). e.calls) (a.is so_far (reply_of id flags form)))
 
     -- and then, whether or not there was memory to write it
     pub ask_pushed : (said : Said) (new : World) (mid after : List ReportLine) (now : ℕ) (bytes : Option (List ℕ)) (result : Result (Unit {0}) NoMemory) →
         IsAsked (λ e reply. ask_group e host asked reply (group_keyed e.world key)) said w new report mid before now →
-        bytes ≡ reply_of id flags order said.answer → OnOk result (after ≡ mid ++ (bytes_lines bytes ++ said.orders)) →
-        Changes (λ e. called (world_port host) e order (Ask id flags key asked)) result w new report after before now
+        bytes ≡ reply_of id flags form said.answer → OnOk result (after ≡ mid ++ (bytes_lines bytes ++ said.orders)) →
+        Changes (λ e. called (world_port host) e form (Ask id flags key asked)) result w new report after before now
     ask_pushed said new mid after now bytes (Ok u) a are lines = ask_changes said new mid after now bytes a are lines
     ask_pushed said new mid after now bytes (Err why) a are lines = ask_stopped said new mid now a
 
   pub locate_changes : (id : ℕ) (key bytes : List ℕ) (here : Bool) (after : List ReportLine) → here ≡ is_here host (group_keyed w key) →
-      bytes ≡ locate_reply_of id order here → after ≡ report ++ reports.Bytes bytes ∷ [] →
-      IsChange (λ e. called (world_port host) e order (Locate id key)) w w report after before before
+      bytes ≡ locate_reply_of id form here → after ≡ report ++ reports.Bytes bytes ∷ [] →
+      IsChange (λ e. called (world_port host) e form (Locate id key)) w w report after before before
   locate_changes id key bytes here after is are lines = record {
     calls = 0;
     is = λ so_far.
-        ap (λ (b : Bool). effect w (report ++ reports.Bytes (locate_reply_of id order b) ∷ []) (so_far + 0)) (sym is)
+        ap (λ (b : Bool). effect w (report ++ reports.Bytes (locate_reply_of id form b) ∷ []) (so_far + 0)) (sym is)
         ∙ ap (λ (bs : List ℕ). effect w (report ++ reports.Bytes bs ∷ []) (so_far + 0)) (sym are)
         ∙ ap (λ (ls : List ReportLine). effect w ls (so_far + 0)) (sym lines);
     counted = omega arith;
   }
 
   -- nothing was done yet
-  pub none_called : (calling : Calling) → IsWithin (λ e. called (world_port host) e order calling) w report before before
-  none_called (Ask id flags key asked) = λ so_far. omega (arith, (calls_grow host).asks (effect w report so_far) key asked (reply_of id flags order))
+  pub none_called : (calling : Calling) → IsWithin (λ e. called (world_port host) e form calling) w report before before
+  none_called (Ask id flags key asked) = λ so_far. omega (arith, (calls_grow host).asks (effect w report so_far) key asked (reply_of id flags form))
   none_called (Locate id key) = λ so_far. omega arith
   none_called Nothing = λ so_far. omega arith
 
-  pub nothing_changes : IsChange (λ e. called (world_port host) e order Nothing) w w report report before before
+  pub nothing_changes : IsChange (λ e. called (world_port host) e form Nothing) w w report report before before
   nothing_changes = record {
     calls = 0;
     is = λ so_far. ap (λ (n : ℕ). effect w report n) (let same : so_far ≡ so_far + 0 = omega arith in same);

@@ -22,11 +22,10 @@ ghost use Rattle.world_turns.specs.Sending.{carried};
 ghost use Rattle.ft_world.specs.Serving.{AnsweredBy, AreInForm, Asks, Changes, IsInForm, Served};
 
 use crate::printing::gives_of;
-use cdr_codec::Order;
 use fault_script::LineFault;
 use ft_base::{Bytes, Decision, GroupId, HostNo, Name, NoMemory, Par, Steps, Stop, Version};
 use ft_report::{ReportLine, ReportLines};
-use giop_messages::Message;
+use giop_messages::{Form, Message};
 use giop_stream::{Session, SessionStep, StreamEnd};
 use group_model::{Asked, Event, GroupAnswer, OutList};
 use host_server::PortAnswer;
@@ -281,7 +280,7 @@ fn is_here(world: &World, host: HostNo, key: &Bytes) -> bool
     }
 }
 
-// A request comes to the host, which is to reply in this byte order.
+// A request comes to the host, which is to reply in this form.
 fn take_request<L: Ledger>(
     world: &mut World,
     host: HostNo,
@@ -289,14 +288,15 @@ fn take_request<L: Ledger>(
     flags: u8,
     key: &Bytes,
     asked: Asked,
-    order: Order,
+    form: Form,
     report: &mut ReportLines,
     steps: &mut Steps<L>,
 ) -> Result<(), NoMemory>
     requires host { host.0 < HOST_LIMIT }
+    requires known { form.minor < 3 }
     requires short { IsShortAsked asked }
     requires kept { IsKeptWorld world.old }
-    ensures did { Changes (λ e. called (world_port host.0) e order (Calling.Ask id flags key.now asked)) result world.old world.new report.old report.new steps.old steps.new }
+    ensures did { Changes (λ e. called (world_port host.0) e form (Calling.Ask id flags key.now asked)) result world.old world.new report.old report.new steps.old steps.new }
     ensures kept { OnOk result (IsKeptWorld world.new) }
 {
     let alloc = world.alloc();
@@ -304,7 +304,7 @@ fn take_request<L: Ledger>(
         Ok(said) => said,
         Err(NoMemory) => return Err(NoMemory),
     };
-    match reply(alloc, id, flags, order, &answer) {
+    match reply(alloc, id, flags, form, &answer) {
         Ok(bytes) => push_answer(bytes, orders, report),
         Err(NoMemory) => Err(NoMemory),
     }
@@ -315,14 +315,15 @@ fn take_call<L: Ledger>(
     world: &mut World,
     host: HostNo,
     calling: Calling,
-    order: Order,
+    form: Form,
     report: &mut ReportLines,
     steps: &mut Steps<L>,
 ) -> Result<(), NoMemory>
     requires host { host.0 < HOST_LIMIT }
+    requires known { form.minor < 3 }
     requires short { IsShortCalling calling }
     requires kept { IsKeptWorld world.old }
-    ensures did { Changes (λ e. called (world_port host.0) e order calling) result world.old world.new report.old report.new steps.old steps.new }
+    ensures did { Changes (λ e. called (world_port host.0) e form calling) result world.old world.new report.old report.new steps.old steps.new }
     ensures kept { OnOk result (IsKeptWorld world.new) }
 {
     let alloc = world.alloc();
@@ -332,21 +333,21 @@ fn take_call<L: Ledger>(
             flags,
             key,
             asked,
-        } => take_request(world, host, id, flags, &key, asked, order, report, steps),
+        } => take_request(world, host, id, flags, &key, asked, form, report, steps),
         Calling::Locate { id, key } => {
             let here = is_here(world, host, &key);
-            let bytes = locate_reply_bytes(alloc, id, order, here)?;
+            let bytes = locate_reply_bytes(alloc, id, form, here)?;
             push_bytes(Some(bytes), report)
         }
         Calling::Nothing => Ok(()),
     }
 }
 
-// What a host does with a message in its byte order.
+// What a host does with a message in its form.
 fn receive<L: Ledger>(
     world: &mut World,
     host: HostNo,
-    received: (Message, Order),
+    received: (Message, Form),
     report: &mut ReportLines,
     steps: &mut Steps<L>,
 ) -> Result<(), NoMemory>
@@ -356,9 +357,9 @@ fn receive<L: Ledger>(
     ensures did { Changes (λ e. step (world_port host.0) e received.0 received.1) result world.old world.new report.old report.new steps.old steps.new }
     ensures kept { OnOk result (IsKeptWorld world.new) }
 {
-    let order = received.1;
+    let form = received.1;
     match calling_of(world.alloc(), received) {
-        Ok(calling) => take_call(world, host, calling, order, report, steps),
+        Ok(calling) => take_call(world, host, calling, form, report, steps),
         Err(NoMemory) => Err(NoMemory),
     }
 }

@@ -1,26 +1,31 @@
 -- The fields of messages and their header are codecs: each by the codecs of its parts.
-use Rattle.std.proofs.Common.{ℕ, ◌+◌, ◌==◌, Bool, true, false, List, Some, refl}
+use Rattle.std.proofs.Common.{ℕ, ◌+◌, ◌==◌, Bool, true, false, List, [], Some, refl}
 use Rattle.std.specs.List.{find}
-use Rattle.cdr_codec.specs.declared.faults.CdrWhy.{CdrWhy}
 use Rattle.cdr_codec.specs.declared.faults.CdrWhy.TheVariants.{Short}
 use Rattle.cdr_codec.specs.Orders.{order_of}
 use Rattle.cdr_codec.specs.Formats.{Format, number, octets, followed, lifted, any_octet}
-use Rattle.cdr_codec.specs.Values.{text}
+use Rattle.cdr_codec.specs.Values.{boolean, text}
 use Rattle.cdr_codec.specs.Laws.{IsCodec}
+use Rattle.cdr_codec.specs.Structs.{struct}
 use Rattle.cdr_codec.proofs.Codecs.{number_codec, octets_codec, nothing_codec, judged_at_codec, judged_codec, followed_codec, in_order_codec}
 use Rattle.cdr_codec.proofs.Sequences.{lifted_codec}
 use Rattle.cdr_codec.proofs.TaggedLaws.{any_octet_codec, all_tagged_codec}
 use Rattle.cdr_codec.proofs.StructLaws.{struct_codec}
-use Rattle.cdr_codec.proofs.ValueLaws.{text_codec}
+use Rattle.cdr_codec.proofs.ValueLaws.{boolean_codec, text_codec}
 use Rattle.ft_contexts.specs.Lists.{context_with, context_parts, contexts as context_list}
 use Rattle.iogr_reference.specs.Formats.{profile, ior}
 use Rattle.giop_messages.specs.declared.faults.Why.TheVariants as causes
-use Rattle.giop_messages.specs.declared.addresses.Target.{Target}
 use Rattle.giop_messages.specs.declared.addresses.Target.TheVariants as targets
 use Rattle.giop_messages.specs.Faults.{up}
-use Rattle.giop_messages.specs.Heads.{octet, only, magic_byte, is_1_2, version, kind_of, kind_sign, kind, size_by, head_fields, head, if_flags_fit, header}
-use Rattle.giop_messages.specs.Addresses.{key_in, profile_in, reference_in, key_target, profile_target, reference_target, row, target_by, target, key_named, address}
-use Rattle.giop_messages.specs.Fields.{request_id, reserved, contexts, status_among, request_fields, request_head, reply_statuses, reply_fields, reply_head, locate_request, locate_statuses, locate_reply}
+use Rattle.giop_messages.specs.Heads.{octet, either, only, magic_byte, minor_of, version, kind_of, kind_sign, kind, size_by, head_fields, head, if_flags_fit, header}
+use Rattle.giop_messages.specs.Addresses.{key_in, profile_in, reference_in, key_target, profile_target, reference_target, target_by, target, key_named, address}
+use Rattle.giop_messages.specs.Fields.{request_id, reserved, contexts, status_among, response_flags, response_expected, object_key, requesting_principal, from_object_key, from_reserved, from_contexts, request_fields_1_2, request_1_0, request_1_1, request_1_2, request_head, statuses_1_0, statuses_1_2, reply_fields_1_0, reply_fields_1_2, reply_head, target_key, locate_request, locate_statuses, locate_reply}
+
+-- ---- one format or the other
+
+either_codec : {W X : Type 0} (short : W) (b : Bool) (f g : Format W X) → IsCodec short f → IsCodec short g → IsCodec short (either b f g)
+either_codec short true f g one other = one
+either_codec short false f g one other = other
 
 -- ---- the header
 
@@ -35,11 +40,11 @@ magic_codec n = judged_codec causes.Short octet 1 causes.Magic (only n) (λ u. n
 
 version_codec : IsCodec causes.Short version
 version_codec =
-    judged_codec causes.Short (followed octet (λ major. octet)) 1 causes.Version is_1_2 (λ u. (1, 2))
+    judged_codec causes.Short (followed octet (λ major. octet)) 1 causes.Version minor_of (λ minor. (1, minor))
     (followed_codec causes.Short octet (λ major. octet) octet_codec (λ major. octet_codec))
 
-kind_codec : IsCodec causes.Short kind
-kind_codec = judged_codec causes.Short octet 1 causes.Kind kind_of kind_sign octet_codec
+kind_codec : (minor : ℕ) → IsCodec causes.Short (kind minor)
+kind_codec minor = judged_codec causes.Short octet 1 causes.Kind (kind_of minor) kind_sign octet_codec
 
 size_codec : (flags : ℕ) → IsCodec causes.Short (size_by flags)
 size_codec flags = in_order_codec causes.Short (order_of flags) (lifted up (number 4)) unsigned_codec
@@ -56,8 +61,8 @@ head_codec =
             magic_codec 80,
             λ p. (
               version_codec,
-              λ v.
-                  (octet_codec, λ flags. (kind_codec, λ kind. (size_codec flags, λ size. tt))),
+              λ minor.
+                  (octet_codec, λ flags. (kind_codec minor, λ kind. (size_codec flags, λ size. tt))),
             ),
           ),
         ),
@@ -88,15 +93,11 @@ reference_target_codec laws =
     judged_codec Short (followed (number 4) (λ i. ior)) 4 Short (λ x. Some (targets.Reference x.0 x.1)) reference_in
     (followed_codec Short (number 4) (λ i. ior) (number_codec 4) (λ i. laws.references))
 
-row_codec : (b : Bool) (f others : Format CdrWhy Target) → IsCodec Short f → IsCodec Short others → IsCodec Short (row b f others)
-row_codec true f others one rest = one
-row_codec false f others one rest = rest
-
 target_by_codec : ReferenceCodecs → (n : ℕ) → IsCodec Short (target_by n)
 target_by_codec laws n =
-    row_codec (n == 0) key_target _ key_target_codec
-    (row_codec (n == 1) profile_target _ (profile_target_codec laws)
-    (row_codec (n == 2) reference_target _ (reference_target_codec laws) (nothing_codec Short (targets.Other n))))
+    either_codec Short (n == 0) key_target _ key_target_codec
+    (either_codec Short (n == 1) profile_target _ (profile_target_codec laws)
+    (either_codec Short (n == 2) reference_target _ (reference_target_codec laws) (nothing_codec Short (targets.Other n))))
 
 target_codec : ReferenceCodecs → IsCodec Short target
 target_codec laws = followed_codec Short (number 2) target_by (number_codec 2) (target_by_codec laws)
@@ -124,9 +125,55 @@ status_codec : (statuses : List ℕ) → IsCodec causes.Short (status_among stat
 status_codec statuses =
     judged_codec causes.Short (lifted up (number 4)) 4 causes.Status (λ n. find (λ status. status == n) statuses) (λ status. status) unsigned_codec
 
-pub request_head_codec : ReferenceCodecs → IsCodec causes.Short request_head
-request_head_codec laws =
-    struct_codec causes.Short request_fields (
+response_expected_codec : IsCodec causes.Short response_expected
+response_expected_codec =
+    judged_codec causes.Short (lifted up boolean) 1 causes.BadBool (λ asks. Some (response_flags asks)) (λ flags. flags == 3)
+    (lifted_codec Short up boolean boolean_codec)
+
+object_key_codec : IsCodec causes.Short object_key
+object_key_codec = lifted_codec Short up octets octets_codec
+
+requesting_principal_codec : IsCodec causes.Short requesting_principal
+requesting_principal_codec = judged_codec causes.Short object_key 4 causes.Short (λ xs. Some tt) (λ u. []) object_key_codec
+
+request_1_0_codec : IsCodec causes.Short request_1_0
+request_1_0_codec =
+    struct_codec causes.Short (from_contexts from_object_key) (
+      contexts_codec,
+      λ contexts. (
+        request_id_codec,
+        λ id. (
+          response_expected_codec,
+          λ flags. (object_key_codec, λ key. (text_up_codec, λ op. (requesting_principal_codec, λ none. tt))),
+        ),
+      ),
+    )
+
+request_1_1_codec : IsCodec causes.Short request_1_1
+request_1_1_codec =
+    struct_codec causes.Short (from_contexts from_reserved) (
+      contexts_codec,
+      λ contexts. (
+        request_id_codec,
+        λ id. (
+          response_expected_codec,
+          λ flags. (
+            reserved_codec,
+            λ first. (
+              reserved_codec,
+              λ second. (
+                reserved_codec,
+                λ third. (object_key_codec, λ key. (text_up_codec, λ op. (requesting_principal_codec, λ none. tt))),
+              ),
+            ),
+          ),
+        ),
+      ),
+    )
+
+request_1_2_codec : ReferenceCodecs → IsCodec causes.Short request_1_2
+request_1_2_codec laws =
+    struct_codec causes.Short request_fields_1_2 (
       request_id_codec,
       λ id. (
         octet_codec,
@@ -144,12 +191,28 @@ request_head_codec laws =
       ),
     )
 
-pub reply_head_codec : IsCodec causes.Short reply_head
-reply_head_codec =
-    struct_codec causes.Short reply_fields (request_id_codec, λ id. (status_codec reply_statuses, λ status. (contexts_codec, λ contexts. tt)))
+pub request_head_codec : ReferenceCodecs → (minor : ℕ) → IsCodec causes.Short (request_head minor)
+request_head_codec laws minor =
+    either_codec causes.Short (minor == 2) request_1_2 (either (minor == 1) request_1_1 request_1_0) (request_1_2_codec laws)
+    (either_codec causes.Short (minor == 1) request_1_1 request_1_0 request_1_1_codec request_1_0_codec)
 
-pub locate_request_codec : ReferenceCodecs → IsCodec causes.Short locate_request
-locate_request_codec laws = followed_codec causes.Short request_id (λ id. address) request_id_codec (λ id. address_codec laws)
+reply_1_0_codec : IsCodec causes.Short (struct reply_fields_1_0)
+reply_1_0_codec =
+    struct_codec causes.Short reply_fields_1_0 (contexts_codec, λ contexts. (request_id_codec, λ id. (status_codec statuses_1_0, λ status. tt)))
+
+reply_1_2_codec : IsCodec causes.Short (struct reply_fields_1_2)
+reply_1_2_codec =
+    struct_codec causes.Short reply_fields_1_2 (request_id_codec, λ id. (status_codec statuses_1_2, λ status. (contexts_codec, λ contexts. tt)))
+
+pub reply_head_codec : (minor : ℕ) → IsCodec causes.Short (reply_head minor)
+reply_head_codec minor = either_codec causes.Short (minor == 2) (struct reply_fields_1_2) (struct reply_fields_1_0) reply_1_2_codec reply_1_0_codec
+
+target_key_codec : ReferenceCodecs → (minor : ℕ) → IsCodec causes.Short (target_key minor)
+target_key_codec laws minor = either_codec causes.Short (minor == 2) address object_key (address_codec laws) object_key_codec
+
+pub locate_request_codec : ReferenceCodecs → (minor : ℕ) → IsCodec causes.Short (locate_request minor)
+locate_request_codec laws minor =
+    followed_codec causes.Short request_id (λ id. target_key minor) request_id_codec (λ id. target_key_codec laws minor)
 
 pub locate_reply_codec : IsCodec causes.Short locate_reply
 locate_reply_codec =

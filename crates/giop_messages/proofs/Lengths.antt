@@ -7,7 +7,7 @@ use Rattle.cdr_codec.specs.Formats.{Spelling, Format, SpellsNumber, SpellsPair, 
 use Rattle.cdr_codec.specs.Structs.{Fields, field, whole, struct}
 use Rattle.giop_messages.specs.declared.heads.TheConstants.{HEAD_LENGTH}
 use Rattle.giop_messages.specs.Faults.{up}
-use Rattle.giop_messages.specs.Heads.{octet, only, magic_byte, is_1_2, version, kind_of, kind, size_by, head_fields, head, if_flags_fit, header}
+use Rattle.giop_messages.specs.Heads.{octet, only, magic_byte, minor_of, version, kind_of, kind, size_by, head_fields, head, if_flags_fit, header}
 
 -- from this place on all spellings have this many bytes
 pub record IsLong {X : Type 0} (spells : Spelling X) (place count : ℕ) : Type 0 where
@@ -56,11 +56,11 @@ magic_long n place e = judged_long octet.Spelled (only n) place 1 (octet_long pl
 
 version_long : IsLong version.Spelled 4 2
 version_long =
-    judged_long (followed octet (λ major. octet)).Spelled is_1_2 4 2
+    judged_long (followed octet (λ major. octet)).Spelled minor_of 4 2
     (pair_long octet.Spelled (λ major. octet.Spelled) 4 1 1 (octet_long 4 refl) (λ major. octet_long 5 refl))
 
-kind_long : IsLong kind.Spelled 7 1
-kind_long = judged_long octet.Spelled kind_of 7 1 (octet_long 7 refl)
+kind_long : (minor : ℕ) → IsLong (kind minor).Spelled 7 1
+kind_long minor = judged_long octet.Spelled (kind_of minor) 7 1 (octet_long 7 refl)
 
 size_long : (flags : ℕ) → IsLong (size_by flags).Spelled 8 4
 size_long flags = ordered_long (order_of flags) (lifted up (number 4)) 8 4 (number_long 4 8 0 refl)
@@ -88,7 +88,7 @@ head_long =
             refl,
             magic_long 80 3 refl,
             λ p.
-                (2, 6, refl, version_long, λ v. (1, 5, refl, octet_long 6 refl, λ flags. (1, 4, refl, kind_long, λ kind. (4, 0, refl, size_long flags, λ size. refl)))),
+                (2, 6, refl, version_long, λ minor. (1, 5, refl, octet_long 6 refl, λ flags. (1, 4, refl, kind_long minor, λ kind. (4, 0, refl, size_long flags, λ size. refl)))),
           ),
         ),
       ),

@@ -1,5 +1,5 @@
 -- The target of a request, and the object key that it names. (GIOP chapter, `TargetAddress`.)
-use Rattle.std.specs.Prelude.{ℕ, ◌==◌, Bool, true, false, List, [], slice_get, Option, Some, None}
+use Rattle.std.specs.Prelude.{ℕ, ◌==◌, List, [], slice_get, Option, Some, None}
 use Rattle.cdr_codec.specs.declared.faults.CdrWhy.{CdrWhy}
 use Rattle.cdr_codec.specs.declared.faults.CdrWhy.TheVariants.{Short}
 use Rattle.cdr_codec.specs.Formats.{Format, number, octets, nothing, followed, judged, lifted}
@@ -13,6 +13,7 @@ use Rattle.giop_messages.specs.declared.faults.Why.TheVariants as causes
 use Rattle.giop_messages.specs.declared.addresses.Target.{Target}
 use Rattle.giop_messages.specs.declared.addresses.Target.TheVariants as targets
 use Rattle.giop_messages.specs.Faults.{up}
+use Rattle.giop_messages.specs.Heads.{either}
 
 -- ---- the forms of a target, each behind its discriminator
 
@@ -43,13 +44,9 @@ profile_target = judged profile 4 Short (λ p. Some (targets.Profile p)) profile
 abbrev pub reference_target : Format CdrWhy Target
 reference_target = judged (followed (number 4) (λ i. ior)) 4 Short (λ x. Some (targets.Reference x.0 x.1)) reference_in
 
-abbrev pub row : Bool → Format CdrWhy Target → Format CdrWhy Target → Format CdrWhy Target
-row true f others = f
-row false f others = others
-
 -- what stands behind a discriminator: `KeyAddr` 0, `ProfileAddr` 1, `ReferenceAddr` 2
 abbrev pub target_by : ℕ → Format CdrWhy Target
-target_by n = row (n == 0) key_target (row (n == 1) profile_target (row (n == 2) reference_target (nothing (targets.Other n))))
+target_by n = either (n == 0) key_target (either (n == 1) profile_target (either (n == 2) reference_target (nothing (targets.Other n))))
 
 abbrev pub target : Format CdrWhy (ℕ × Target)
 target = followed (number 2) target_by

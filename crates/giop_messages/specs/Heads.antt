@@ -1,6 +1,6 @@
--- The header of a message: `GIOP`, the version 1.2, the flags, the type, and the size without the header.
+-- The header of a message: `GIOP`, the version 1.0, 1.1 or 1.2, the flags, the type, and the size without the header.
 -- (GIOP chapter, "GIOP Message Header".)
-use Rattle.std.specs.Prelude.{ℕ, ◌+◌, ◌/◌, ◌%◌, ◌==◌, ◌&&◌, ◌||◌, not, Bool, true, false, if◌then◌else◌, List, [], ◌∷◌, Option, Some, None, Result, Ok}
+use Rattle.std.specs.Prelude.{ℕ, ◌+◌, ◌/◌, ◌%◌, ◌==◌, ◌&&◌, ◌||◌, not, nat_lt, Bool, true, false, if◌then◌else◌, List, [], ◌∷◌, Option, Some, None, Result, Ok}
 use Rattle.std.specs.List.{find}
 use Rattle.cdr_codec.specs.declared.orders.Order.TheVariants.{Big}
 use Rattle.cdr_codec.specs.Reading.{reader_at, Fault, ◌>>=◌}
@@ -17,6 +17,11 @@ use Rattle.giop_messages.specs.Faults.{up}
 abbrev pub octet : Format Why ℕ
 octet = lifted up (number 1)
 
+-- one format or the other
+abbrev pub either : {W X : Type 0} → Bool → Format W X → Format W X → Format W X
+either true f g = f
+either false f g = g
+
 -- a field that tells nothing
 abbrev pub mark : {S : Type 0} → Format Why (Unit {0}) → Fields Why S → Fields Why S
 mark f rest = field f (λ s. tt) (λ u. rest)
@@ -30,12 +35,12 @@ only n m = if m == n then Some tt else None
 abbrev pub magic_byte : ℕ → Format Why (Unit {0})
 magic_byte n = judged octet 1 causes.Magic (only n) (λ u. n)
 
--- the version 1.2; another is refused at its first byte
-abbrev pub is_1_2 : ℕ × ℕ → Option (Unit {0})
-is_1_2 v = if v.0 == 1 && v.1 == 2 then Some tt else None
+-- the minor version of 1.0, 1.1 and 1.2; another version is refused at its first byte
+abbrev pub minor_of : ℕ × ℕ → Option ℕ
+minor_of v = if v.0 == 1 && nat_lt v.1 3 then Some v.1 else None
 
-abbrev pub version : Format Why (Unit {0})
-version = judged (followed octet (λ major. octet)) 1 causes.Version is_1_2 (λ u. (1, 2))
+abbrev pub version : Format Why ℕ
+version = judged (followed octet (λ major. octet)) 1 causes.Version minor_of (λ minor. (1, minor))
 
 -- ---- the type
 
@@ -50,17 +55,25 @@ kind_sign kinds.CloseConnection = 5
 kind_sign kinds.MessageError = 6
 kind_sign kinds.Fragment = 7
 
-abbrev pub all_kinds : List Kind
-all_kinds =
+-- only 1.2 has fragments here
+abbrev pub fragments_in : ℕ → List Kind
+fragments_in minor = if minor == 2 then kinds.Fragment ∷ [] else []
+
+abbrev pub kinds_in : ℕ → List Kind
+kinds_in minor =
     kinds.Request ∷ kinds.Reply ∷ kinds.CancelRequest ∷ kinds.LocateRequest ∷ kinds.LocateReply ∷ kinds.CloseConnection ∷ kinds.MessageError
-    ∷ kinds.Fragment ∷ []
+    ∷ fragments_in minor
 
--- the type with this number
-abbrev pub kind_of : ℕ → Option Kind
-kind_of n = find (λ k. kind_sign k == n) all_kinds
+-- the type with this number, in a message of this minor version
+abbrev pub kind_of : ℕ → ℕ → Option Kind
+kind_of minor n = find (λ k. kind_sign k == n) (kinds_in minor)
 
-abbrev pub kind : Format Why Kind
-kind = judged octet 1 causes.Kind kind_of kind_sign
+abbrev pub kind : ℕ → Format Why Kind
+kind minor = judged octet 1 causes.Kind (kind_of minor) kind_sign
+
+-- there is such a minor version, and it has messages of this type
+abbrev pub has_kind : ℕ → Kind → Bool
+has_kind minor k = nat_lt minor 3 && (minor == 2 || not (kind_sign k == 7))
 
 -- which messages may come in fragments
 abbrev pub has_parts : Kind → Bool
@@ -75,13 +88,21 @@ has_parts kinds.Fragment = true
 
 -- ---- the flags, of which bit 0 names the byte order
 
--- bit 1: more fragments follow
-abbrev pub more_in : ℕ → Bool
-more_in flags = flags / 2 % 2 == 1
+-- bit 1, which in 1.0 says nothing
+abbrev pub has_fragment_bit : ℕ → Bool
+has_fragment_bit flags = flags / 2 % 2 == 1
+
+-- more fragments follow
+abbrev pub more_in : Head → Bool
+more_in h = h.minor == 2 && has_fragment_bit h.flags
+
+-- which messages may have bit 1: in 1.1 none
+abbrev pub may_have_fragment_bit : ℕ → Kind → Bool
+may_have_fragment_bit minor k = if minor == 0 then true else (if minor == 1 then false else has_parts k)
 
 -- no fragments are announced of a message that has none
 abbrev pub flags_fit : Head → Bool
-flags_fit h = not (more_in h.flags) || has_parts h.kind
+flags_fit h = not (has_fragment_bit h.flags) || may_have_fragment_bit h.minor h.kind
 
 abbrev pub if_flags_fit : Head → Option Head
 if_flags_fit h = if flags_fit h then Some h else None
@@ -95,11 +116,12 @@ size_by flags = in_order (order_of flags) (lifted up (number 4))
 -- `GIOP`, the version, the flags, the type, the size
 abbrev pub head_fields : Fields Why Head
 head_fields =
-    mark (magic_byte 71) (mark (magic_byte 73) (mark (magic_byte 79) (mark (magic_byte 80) (mark version
-    (field octet (λ h. h.flags) (λ flags.
-    field kind (λ h. h.kind) (λ kind.
+    mark (magic_byte 71) (mark (magic_byte 73) (mark (magic_byte 79) (mark (magic_byte 80)
+    (field version (λ h. h.minor) (λ minor.
+    field octet (λ h. h.flags) (λ flags.
+    field (kind minor) (λ h. h.kind) (λ kind.
     field (size_by flags) (λ h. h.size) (λ size.
-    whole (record { flags = flags; kind = kind; size = size })))))))))
+    whole (record { minor = minor; flags = flags; kind = kind; size = size })))))))))
 
 -- a header, whatever its flags
 abbrev pub head : Format Why Head

@@ -12,13 +12,13 @@ pub enum Why {
     /// The message doesn't begin with `GIOP`.
     #[error("no GIOP message")]
     Magic,
-    /// A version other than 1.2.
+    /// A version other than 1.0, 1.1 and 1.2.
     #[error("another version")]
     Version,
-    /// More fragments are announced of a message that has none.
+    /// More fragments are announced of a message that has none; in 1.1 none has any.
     #[error("fragments of a message that has none")]
     Flags,
-    /// A type of message above 7.
+    /// A type of message that the version hasn't: above 7, or a Fragment of 1.0 or 1.1.
     #[error("no type of message")]
     Kind,
     /// A part of a fragmented message whose length is no multiple of 8, though more parts follow.
@@ -45,7 +45,7 @@ pub enum Why {
     /// A target from which no object key comes.
     #[error("no object key")]
     Address,
-    /// A reply status that there is not.
+    /// A reply status that the version hasn't.
     #[error("no reply status")]
     Status,
 }

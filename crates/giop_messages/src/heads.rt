@@ -3,10 +3,12 @@ ghost use Rattle.std.specs.Prelude.{◌≡◌, ◌≤◌, ◌<◌, ◌+◌, ◌^
 ghost use Rattle.cdr_codec.specs.Orders.{order_of};
 ghost use Rattle.cdr_codec.specs.Calls.{Gives};
 ghost use Rattle.giop_messages.specs.Faults.{wrong_of, IsJudged};
-ghost use Rattle.giop_messages.specs.Heads.{octet, magic_byte, version, kind, kind_of, kind_sign, more_in, size_by, head, header, has_parts, flags_fit, head_in};
+ghost use Rattle.giop_messages.specs.Heads.{octet, magic_byte, version, kind, kind_of, kind_sign, has_fragment_bit, may_have_fragment_bit, more_in, has_kind, size_by, head, header, has_parts, flags_fit, head_in};
+ghost use Rattle.giop_messages.specs.Messages.{form_of};
 ghost use Rattle.giop_messages.specs.Writing.{begun_message, with_size};
 
 use crate::faults::{Malformed, Why};
+use crate::forms::Form;
 use cdr_codec::{CdrReader, CdrWriter, Order, digits_of_u32};
 use ft_base::{Bytes, NoMemory};
 use std::alloc::Global;
@@ -36,6 +38,8 @@ pub enum Kind {
 /// What a header says.
 #[derive(Clone, Copy, Debug, PartialEq, Eq)]
 pub struct Head {
+    /// The minor version of GIOP 1: 0, 1 or 2.
+    pub minor: u8,
     /// Bit 0: the message is little endian. Bit 1: fragments follow. The others say nothing.
     pub flags: u8,
     pub kind: Kind,
@@ -44,8 +48,8 @@ pub struct Head {
 }
 
 impl Kind {
-    fn of(number: u8) -> Option<Kind>
-        ensures { result ≡ kind_of number }
+    fn of(minor: u8, number: u8) -> Option<Kind>
+        ensures { result ≡ kind_of minor number }
     {
         match number {
             0 => Some(Kind::Request),
@@ -55,7 +59,7 @@ impl Kind {
             4 => Some(Kind::LocateReply),
             5 => Some(Kind::CloseConnection),
             6 => Some(Kind::MessageError),
-            7 => Some(Kind::Fragment),
+            7 if minor == 2 => Some(Kind::Fragment),
             _ => None,
         }
     }
@@ -73,6 +77,24 @@ impl Kind {
             Kind::CloseConnection => 5,
             Kind::MessageError => 6,
             Kind::Fragment => 7,
+        }
+    }
+
+    // Whether there is such a minor version, and it has messages of this type.
+    fn is_in(self, minor: u8) -> bool
+        ensures { result ≡ has_kind minor self }
+    {
+        minor < 3 && (minor == 2 || self.number() != 7)
+    }
+
+    // Whether bit 1 of the flags may be set.
+    fn may_have_fragment_bit(self, minor: u8) -> bool
+        ensures { result ≡ may_have_fragment_bit minor self }
+    {
+        match minor {
+            0 => true,
+            1 => false,
+            _ => self.has_parts(),
         }
     }
 
@@ -99,18 +121,42 @@ impl Head {
         Order::of_flags(self.flags)
     }
 
-    /// Whether more fragments of the message follow.
-    pub fn more(self) -> bool
-        ensures { result ≡ more_in self.flags }
+    /// The form of the message.
+    pub fn form(self) -> Form
+        ensures { result ≡ form_of self }
+    {
+        Form {
+            minor: self.minor,
+            order: self.order(),
+        }
+    }
+
+    /// Whether its minor version has messages of its type.
+    pub fn has_kind(self) -> bool
+        ensures { result ≡ has_kind self.minor self.kind }
+    {
+        self.kind.is_in(self.minor)
+    }
+
+    // Whether bit 1 of the flags is set.
+    fn has_fragment_bit(self) -> bool
+        ensures { result ≡ has_fragment_bit self.flags }
     {
         self.flags / 2 % 2 == 1
+    }
+
+    /// Whether more fragments of the message follow. In 1.0 bit 1 says nothing.
+    pub fn more(self) -> bool
+        ensures { result ≡ more_in self }
+    {
+        self.minor == 2 && self.has_fragment_bit()
     }
 
     /// Whether no fragments are announced of a message that has none.
     pub fn flags_fit(self) -> bool
         ensures { result ≡ flags_fit self }
     {
-        !self.more() || self.kind.has_parts()
+        !self.has_fragment_bit() || self.kind.may_have_fragment_bit(self.minor)
     }
 }
 
@@ -136,14 +182,14 @@ fn read_magic_byte(reader: &mut CdrReader, letter: u8) -> Result<(), Malformed>
     }
 }
 
-fn read_version(reader: &mut CdrReader) -> Result<(), Malformed>
-    ensures { Gives (λ u. tt) wrong_of result (version.read reader.old) reader.new }
+fn read_version(reader: &mut CdrReader) -> Result<u8, Malformed>
+    ensures { Gives (λ n. n) wrong_of result (version.read reader.old) reader.new }
 {
     let place = reader.place();
     let major = read_octet(reader)?;
     let minor = read_octet(reader)?;
-    if major == 1 && minor == 2 {
-        Ok(())
+    if major == 1 && minor < 3 {
+        Ok(minor)
     } else {
         Err(Malformed {
             why: Why::Version,
@@ -152,12 +198,12 @@ fn read_version(reader: &mut CdrReader) -> Result<(), Malformed>
     }
 }
 
-fn read_kind(reader: &mut CdrReader) -> Result<Kind, Malformed>
-    ensures { Gives (λ k. k) wrong_of result (kind.read reader.old) reader.new }
+fn read_kind(minor: u8, reader: &mut CdrReader) -> Result<Kind, Malformed>
+    ensures { Gives (λ k. k) wrong_of result ((kind minor).read reader.old) reader.new }
 {
     let place = reader.place();
     let number = read_octet(reader)?;
-    match Kind::of(number) {
+    match Kind::of(minor, number) {
         Some(kind) => Ok(kind),
         None => Err(Malformed {
             why: Why::Kind,
@@ -182,11 +228,16 @@ fn read_fields(reader: &mut CdrReader) -> Result<Head, Malformed>
     read_magic_byte(reader, b'I')?;
     read_magic_byte(reader, b'O')?;
     read_magic_byte(reader, b'P')?;
-    read_version(reader)?;
+    let minor = read_version(reader)?;
     let flags = read_octet(reader)?;
-    let kind = read_kind(reader)?;
+    let kind = read_kind(minor, reader)?;
     let size = read_size(flags, reader)?;
-    Ok(Head { flags, kind, size })
+    Ok(Head {
+        minor,
+        flags,
+        kind,
+        size,
+    })
 }
 
 /// A header whose flags fit its type.
@@ -222,21 +273,22 @@ pub fn read_head(bytes: &[u8]) -> Result<Head, Malformed>
 pub fn begin_message(
     alloc: Global,
     kind: Kind,
-    order: Order,
+    form: Form,
     room: usize,
 ) -> Result<CdrWriter, NoMemory>
     requires { room < 2 ^ 39 }
-    ensures { IfOk result (λ writer. writer ≡ begun_message order kind) }
+    ensures { IfOk result (λ writer. writer ≡ begun_message form kind) }
 {
-    let mut writer = CdrWriter::with_room(alloc, order, 0, HEAD_LENGTH + room)?;
-    let order = order.sign();
+    let mut writer = CdrWriter::with_room(alloc, form.order, 0, HEAD_LENGTH + room)?;
+    let order = form.order.sign();
+    let minor = form.minor;
     let front = [
         b'G',
         b'I',
         b'O',
         b'P',
         1,
-        2,
+        minor,
         order,
         kind.number(),
         0,

@@ -24,7 +24,7 @@ pub fn messages_are_spelled()
     references_are_codecs();
 }
 
-/// What is written is read back, in the byte order in which it was written.
+/// What is written is read back, in the form in which it was written.
 pub fn messages_are_read_back()
     ensures { MessagesAreReadBack }
 {

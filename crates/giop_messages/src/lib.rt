@@ -1,29 +1,33 @@
-//! The eight messages of GIOP 1.2, both ways in both byte orders: what a peer says on a link. (GIOP
+//! The messages of GIOP 1.0, 1.1 and 1.2, both ways in both byte orders: what a peer says on a link. (GIOP
 //! chapter, "GIOP Message Formats".)
 //!
 //! `specs/` say which bytes spell which message, and in which order the causes are judged for which
 //! bytes are none.
 //!
-//! A message is read, and written again:
+//! A message is read, and one of 1.2 written again:
 //!
 //! ```
 //! match read_message(alloc, bytes.as_slice()) {
-//!     Ok((message, order)) => {
-//!         put_message(&message, order, out)?;
-//!         put_again(alloc, &message, order, out)
+//!     Ok((message, form)) => {
+//!         put_message(&message, form, out)?;
+//!         if form.minor == 2 {
+//!             put_again(alloc, &message, form.order, out)?;
+//!         }
+//!         Ok(())
 //!     }
 //!     Err(fault) => Ok(write!(out, "refused {fault}")?),
 //! }
 //! ```
 //!
 //! ```
-//! let bytes = write_message(alloc, message, order)?;
+//! let bytes = write_message(alloc, message, Form { minor: 2, order })?;
 //! ```
 #![tactic(auto)]
 
 mod addresses;
 mod contexts;
 mod faults;
+mod forms;
 mod heads;
 mod laws;
 mod messages;
@@ -34,6 +38,7 @@ mod statuses;
 mod writing;
 
 pub use faults::{Malformed, ReadFault, Why};
+pub use forms::Form;
 pub use heads::{HEAD_LENGTH, Head, Kind, MESSAGE_LIMIT, read_head};
 pub use laws::{
     headers_are_read_back, heads_are_read_exactly, messages_are_fields_behind_headers,

@@ -10,7 +10,7 @@ use ft_contexts::Contexts;
 #[derive(Drop)]
 pub struct RequestMsg {
     pub id: u32,
-    /// The response flags. Bit 0 asks for a reply.
+    /// The response flags. Bit 0 asks for a reply. In 1.0 and 1.1 they are 3 for `response_expected`, else 0.
     pub flags: u8,
     /// The object key, in whichever form the target was named.
     pub key: Bytes,
@@ -25,13 +25,13 @@ pub struct RequestMsg {
 pub struct ReplyMsg {
     pub id: u32,
     /// From 0 to 5: NO_EXCEPTION, USER_EXCEPTION, SYSTEM_EXCEPTION, LOCATION_FORWARD,
-    /// LOCATION_FORWARD_PERM, NEEDS_ADDRESSING_MODE.
+    /// LOCATION_FORWARD_PERM, NEEDS_ADDRESSING_MODE. The last two are 1.2's.
     pub status: u32,
     pub contexts: Contexts,
     pub body: Raw,
 }
 
-/// A message of GIOP 1.2. A number alone is a request id.
+/// A message of GIOP. A number alone is a request id.
 #[derive(Drop)]
 pub enum Message {
     Request(RequestMsg),
@@ -44,7 +44,7 @@ pub enum Message {
     LocateReply(u32, u32),
     CloseConnection,
     MessageError,
-    /// With what it adds to the message that was begun.
+    /// Of 1.2 alone, with what it adds to the message that was begun.
     Fragment(u32, Bytes),
 }
 

@@ -3,7 +3,7 @@ ghost use Rattle.std.specs.Prelude.{◌≡◌, ◌==◌};
 ghost use Rattle.std.specs.List.{find};
 ghost use Rattle.cdr_codec.specs.Calls.{Gives};
 ghost use Rattle.giop_messages.specs.Faults.{wrong_of};
-ghost use Rattle.giop_messages.specs.Fields.{status_among, reply_statuses, locate_statuses};
+ghost use Rattle.giop_messages.specs.Fields.{status_among, statuses_1_2, statuses_1_0, locate_statuses};
 
 use crate::faults::{Malformed, Why};
 use cdr_codec::CdrReader;
@@ -32,13 +32,20 @@ pub const UNKNOWN_OBJECT: u32 = 0;
 /// The object is here.
 pub const OBJECT_HERE: u32 = 1;
 
-const REPLY_STATUSES: [u32; 6] = [
+const REPLY_STATUSES_1_2: [u32; 6] = [
     NO_EXCEPTION,
     USER_EXCEPTION,
     SYSTEM_EXCEPTION,
     LOCATION_FORWARD,
     LOCATION_FORWARD_PERM,
     NEEDS_ADDRESSING_MODE,
+];
+
+const REPLY_STATUSES_1_0: [u32; 4] = [
+    NO_EXCEPTION,
+    USER_EXCEPTION,
+    SYSTEM_EXCEPTION,
+    LOCATION_FORWARD,
 ];
 
 const LOCATE_STATUSES: [u32; 2] = [UNKNOWN_OBJECT, OBJECT_HERE];
@@ -63,11 +70,18 @@ fn read_status(statuses: &[u32], reader: &mut CdrReader) -> Result<u32, Malforme
     }
 }
 
-/// The status of a Reply.
-pub fn read_reply_status(reader: &mut CdrReader) -> Result<u32, Malformed>
-    ensures { Gives (λ n. n) wrong_of result ((status_among reply_statuses).read reader.old) reader.new }
+/// The status of a Reply of 1.0 and 1.1.
+pub fn read_status_1_0(reader: &mut CdrReader) -> Result<u32, Malformed>
+    ensures { Gives (λ n. n) wrong_of result ((status_among statuses_1_0).read reader.old) reader.new }
 {
-    read_status(REPLY_STATUSES.as_slice(), reader)
+    read_status(REPLY_STATUSES_1_0.as_slice(), reader)
+}
+
+/// The status of a Reply of 1.2.
+pub fn read_status_1_2(reader: &mut CdrReader) -> Result<u32, Malformed>
+    ensures { Gives (λ n. n) wrong_of result ((status_among statuses_1_2).read reader.old) reader.new }
+{
+    read_status(REPLY_STATUSES_1_2.as_slice(), reader)
 }
 
 /// The status of a LocateReply.

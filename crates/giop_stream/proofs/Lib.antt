@@ -3,6 +3,7 @@ pub mod TurnLaws
 pub mod FrameLaws
 pub mod TallyLaws
 pub mod SessionLaws
+pub mod ReplyLaws
 pub mod SpelledLaws
 pub mod WrittenLaws
 pub mod CuttingLaws

@@ -39,21 +39,27 @@ cancel_behind : (given : List Received) (s t : Streamed) → behind given s ≡ 
 cancel_behind given s t e =
     same_streamed s t (cancel given s.messages t.messages (ap (λ (x : Streamed). x.messages) e)) (ap (λ (x : Streamed). x.end) e)
 
-same_rest : (f g : Frames) (fed : List ℕ) (given : List Received) → Stands f fed given → Stands g fed given → (more : List ℕ) → resume f more ≡ resume g more
+pub same_rest : (f g : Frames) (fed : List ℕ) (given : List Received) → Stands f fed given → Stands g fed given → (more : List ℕ) → resume f more ≡ resume g more
 same_rest f g fed given s t more = cancel_behind given (resume f more) (resume g more) (sym (s.on more) ∙ t.on more)
 
-one_more : (f g : Frames) (fed : List ℕ) (given : List Received) (m : Received) → Stands f fed given → Stands g fed (given ++ m ∷ []) → (more : List ℕ)
+pub one_more : (f g : Frames) (fed : List ℕ) (given : List Received) (m : Received) → Stands f fed given → Stands g fed (given ++ m ∷ []) → (more : List ℕ)
     → resume f more ≡ behind (m ∷ []) (resume g more)
 one_more f g fed given m s t more =
     let rest = resume g more in
     cancel_behind given (resume f more) (behind (m ∷ []) rest)
     (sym (s.on more) ∙ t.on more ∙ ap (λ (all : List Received). record { messages = all; end = rest.end }) (append_assoc given (m ∷ []) rest.messages))
 
-all_stops : (f : Frames) (fed : List ℕ) (given : List Received) (fault : StreamFault) → Stands f fed given → EndsWith fed given fault → (more : List ℕ)
+-- after a piece, what still comes is what comes of the piece and of what follows it
+pub resumed_fed : (f g : Frames) (fed piece : List ℕ) (given : List Received) → Stands f fed given → Stands g (fed ++ piece) given → (more : List ℕ)
+    → resume f (piece ++ more) ≡ resume g more
+resumed_fed f g fed piece given s t more =
+    cancel_behind given (resume f (piece ++ more)) (resume g more) (sym (s.on (piece ++ more)) ∙ ap stream (sym (append_assoc fed piece more)) ∙ t.on more)
+
+pub all_stops : (f : Frames) (fed : List ℕ) (given : List Received) (fault : StreamFault) → Stands f fed given → EndsWith fed given fault → (more : List ℕ)
     → resume f more ≡ stops fault
 all_stops f fed given fault s e more = cancel_behind given (resume f more) (stops fault) (sym (s.on more) ∙ e more ∙ sym (ended given (Stops fault)))
 
-none_left : (f : Frames) (fed : List ℕ) (given : List Received) (n : ℕ) → Stands f fed given → stream fed ≡ record { messages = given; end = Rest n }
+pub none_left : (f : Frames) (fed : List ℕ) (given : List Received) (n : ℕ) → Stands f fed given → stream fed ≡ record { messages = given; end = Rest n }
     → resume f [] ≡ record { messages = []; end = Rest n }
 none_left f fed given n s e =
     cancel_behind given (resume f []) (record { messages = []; end = Rest n })
@@ -101,9 +107,7 @@ pub serves_fed : (s t : Serving) (fed piece : List ℕ) (given : List Received) 
 serves_fed s t fed piece given e f on h =
     let before = stands_of s fed given e h in
     let after = on given before in
-    let same : (more : List ℕ) → resume s.frames (piece ++ more) ≡ resume t.frames more = λ more.
-    cancel_behind given (resume s.frames (piece ++ more)) (resume t.frames more)
-    (sym (before.on (piece ++ more)) ∙ ap stream (sym (append_assoc fed piece more)) ∙ after.on more) in
+    let same = resumed_fed s.frames t.frames fed piece given before after in
     serves_by t (fed ++ piece) given (f ∙ e)
     (λ more. ap session (append_assoc fed piece more) ∙ onward s fed given (piece ++ more) e h ∙ ap (λ (x : Streamed). served_before given (session_of x)) (same more))
     after
@@ -149,7 +153,7 @@ goes_taken steps.Wait m s k t fed given e f took stands h = absurd took
 goes_taken (steps.End end) m s k t fed given e f took stands h =
     ends_by t fed given end (ap (λ (t : Serving). t.ended) took.1) (λ more. on_message s k.frames fed given m (Some end) more e h stands took.0)
 
-of_fault : (fault : StreamFault) (P : Type 0) → IsOfLink fault → OnFault (link_fault fault) P → P
+pub of_fault : (fault : StreamFault) (P : Type 0) → IsOfLink fault → OnFault (link_fault fault) P → P
 of_fault (faults.Malformed why place) P of p = p
 of_fault (faults.TooLarge size) P of p = p
 of_fault faults.NoMemory P of p = absurd of

@@ -5,19 +5,21 @@ use Rattle.std.specs.Prelude.{◌&&◌, ◌==◌, ◌%◌, is_some, nat_lt, not,
 use Rattle.std.specs.List.{AllByRecursion}
 use Rattle.std.proofs.lemmas.Bool.{ltb-false}
 use Rattle.std.proofs.lemmas.List.{drop_at, length-drop, length-take}
-use Rattle.byteorder.specs.Numbers.{length-bytes_high_first, length-bytes_low_first}
 use Rattle.cdr_codec.specs.declared.orders.Order.{Order}
 use Rattle.cdr_codec.specs.declared.orders.Order.TheVariants.{Big, Little}
 use Rattle.cdr_codec.specs.Reading.{Fault, digits_in, reader_at, ◌>>=◌}
 use Rattle.cdr_codec.specs.Orders.{order_of, order_sign}
 use Rattle.giop_messages.specs.declared.faults.Why.{Why}
 use Rattle.giop_messages.specs.declared.faults.Why.TheVariants as causes
+use Rattle.giop_messages.specs.declared.forms.Form.{Form}
 use Rattle.giop_messages.specs.declared.heads.Head.{Head}
 use Rattle.giop_messages.specs.declared.heads.Kind.{Kind}
-use Rattle.giop_messages.specs.Heads.{flags_fit, head_in, header, more_in}
 use Rattle.giop_messages.specs.declared.heads.TheConstants.{HEAD_LENGTH, MESSAGE_LIMIT}
-use Rattle.giop_messages.specs.Messages.{fields_in, message_in, payload_at}
+use Rattle.giop_messages.specs.Heads.{flags_fit, has_kind, head_in, header, more_in}
+use Rattle.giop_messages.specs.Messages.{giop, fields_in, form_of, fields_in_form, message_in, no_kind}
+use Rattle.giop_messages.specs.Writing.{whole_head}
 use Rattle.giop_messages.specs.Laws.{HeadersAreReadBack, MessagesAreFieldsBehindHeaders, MessagesAreReadExactly}
+use Rattle.byteorder.specs.Numbers.{length-bytes_high_first, length-bytes_low_first}
 use Rattle.giop_stream.specs.declared.begun.TheConstants.{FRAGMENT_HEAD}
 use Rattle.giop_stream.specs.declared.faults.StreamFault.{StreamFault}
 use Rattle.giop_stream.specs.declared.faults.StreamFault.TheVariants as faults
@@ -38,18 +40,18 @@ pub record Laws : Type 0 where
 
 -- ---- the fields behind a header of their size
 
-abbrev pub sized_head : Order → Kind → ℕ → Head
-sized_head order kind size = record { flags = order_sign order; kind = kind; size = size }
-
 pub sign_small : (order : Order) → order_sign order < 256
 sign_small Big = lit< tt
 sign_small Little = lit< tt
 
-pub sign_fits : (order : Order) (kind : Kind) (size : ℕ) → flags_fit (sized_head order kind size) ≡ true
-sign_fits Big kind size = refl
-sign_fits Little kind size = refl
+sign_fits_in : (minor : ℕ) (order : Order) (kind : Kind) (size : ℕ) → flags_fit (whole_head (giop minor order) kind size) ≡ true
+sign_fits_in minor Big kind size = refl
+sign_fits_in minor Little kind size = refl
 
-sign_means : (order : Order) → order_of (order_sign order) ≡ order
+pub sign_fits : (form : Form) (kind : Kind) (size : ℕ) → flags_fit (whole_head form kind size) ≡ true
+sign_fits form kind size = sign_fits_in form.minor form.order kind size
+
+pub sign_means : (order : Order) → order_of (order_sign order) ≡ order
 sign_means Big = refl
 sign_means Little = refl
 
@@ -57,27 +59,40 @@ pub length_digits : (order : Order) (size n : ℕ) → length (digits_in order s
 length_digits Big size n = length-bytes_high_first size n
 length_digits Little size n = length-bytes_low_first 0 size n
 
-pub twelve : (order : Order) (kind : Kind) (size : ℕ) → length (header.written Big 0 (sized_head order kind size)) ≡ HEAD_LENGTH
-twelve Big kind size = refl
-twelve Little kind size = refl
+twelve_in : (minor : ℕ) (order : Order) (kind : Kind) (size : ℕ) → length (header.written Big 0 (whole_head (giop minor order) kind size)) ≡ HEAD_LENGTH
+twelve_in minor Big kind size = refl
+twelve_in minor Little kind size = refl
 
-abbrev fields_by : Order → Kind → List ℕ → Result Received (Fault Why)
-fields_by order kind payload = payload_at kind (reader_at order HEAD_LENGTH payload) >>= λ m. Ok (m, order)
+pub twelve : (form : Form) (kind : Kind) (size : ℕ) → length (header.written Big 0 (whole_head form kind size)) ≡ HEAD_LENGTH
+twelve form kind size = twelve_in form.minor form.order kind size
+
+-- fields are read of a type that there is
+possible_if : (b : Bool) (read : Result Received (Fault Why)) (m : Received) → cond b read (Err no_kind) ≡ Ok m → b ≡ true
+possible_if true read m e = refl
+possible_if false read m e = absurd cc
+
+-- the header of these fields, written with their size, says the same form
+pub form_means : (form : Form) (kind : Kind) (size : ℕ) → form_of (whole_head form kind size) ≡ form
+form_means form kind size = ap (giop form.minor) (sign_means form.order)
+
+abbrev pub fields_if : Bool → Form → Kind → List ℕ → Result Received (Fault Why)
+fields_if b form kind payload = cond b (fields_in_form form kind payload) (Err no_kind)
 
 pub fields_spelled : Laws → (h : Head) (payload : List ℕ) (m : Received) → HEAD_LENGTH + length payload ≤ MESSAGE_LIMIT → fields_in h payload ≡ Ok m → IsSpelled m
 fields_spelled laws h payload m small e =
-    let order = order_of h.flags in
-    let k = sized_head order h.kind (length payload) in
+    let form = form_of h in
+    let there : has_kind h.minor h.kind ≡ true = possible_if (has_kind h.minor h.kind) _ m e in
+    let k = whole_head form h.kind (length payload) in
     let front = header.written Big 0 k in
-    let long : length front ≡ HEAD_LENGTH = twelve order h.kind (length payload) in
+    let long : length front ≡ HEAD_LENGTH = twelve form h.kind (length payload) in
     let whole : length (front ++ payload) ≡ HEAD_LENGTH + length payload = omega (arith, length-append front payload) in
-    let read : head_in (front ++ payload) ≡ Ok k = laws.headers k payload (sign_small order) (omega arith) in
+    let read : head_in (front ++ payload) ≡ Ok k = laws.headers k payload there (sign_small form.order) (omega arith) in
     let same : fields_in k (drop HEAD_LENGTH (front ++ payload)) ≡ fields_in h payload =
-    ap (fields_in k) (drop_at front payload HEAD_LENGTH long) ∙ ap (λ (o : Order). fields_by o h.kind payload) (sign_means order) in
-    let there : message_in (front ++ payload) ≡ Ok m =
-    laws.fields (front ++ payload) (drop HEAD_LENGTH (front ++ payload)) k read (sign_fits order h.kind (length payload)) refl
+    ap (fields_in k) (drop_at front payload HEAD_LENGTH long) ∙ ap (λ (f : Form). fields_if (has_kind h.minor h.kind) f h.kind payload) (form_means form h.kind (length payload)) in
+    let read_all : message_in (front ++ payload) ≡ Ok m =
+    laws.fields (front ++ payload) (drop HEAD_LENGTH (front ++ payload)) k read (sign_fits form h.kind (length payload)) refl
     (ap length (sym (drop_at front payload HEAD_LENGTH long))) (omega (arith, whole)) ∙ same ∙ e in
-    record { bytes = front ++ payload; small = omega arith; spelled = (laws.exactly (front ++ payload) m.0 m.1).0 there }
+    record { bytes = front ++ payload; small = omega arith; spelled = (laws.exactly (front ++ payload) m.0 m.1).0 read_all }
 
 -- ---- a turn gives only spelled messages
 
@@ -125,10 +140,10 @@ fragment_by_spelled laws os more part (Ok id) = fragment_spelled laws os more (d
 
 turn_spelled : Laws → (os : List Begun) (h : Head) (part : List ℕ) → HEAD_LENGTH ≤ length part → length part ≤ MESSAGE_LIMIT → IsSpelledTurn (turn os h part)
 unfolding turn
-turn_spelled laws os h part long few = go (is_fragment h.kind) (more_in h.flags)
+turn_spelled laws os h part long few = go (is_fragment h.kind) (more_in h)
   where
     go : (b d : Bool) → IsSpelledTurn (cond b (fragment os h part) (cond d (begins os h part) (gave os (message_of h (drop HEAD_LENGTH part)))))
-    go true d = fragment_by_spelled laws os (more_in h.flags) part (id_in (order_of h.flags) part)
+    go true d = fragment_by_spelled laws os (more_in h) part (id_in (order_of h.flags) part)
     go false true = begins_spelled os h part (id_in (order_of h.flags) part)
     go false false = gave_spelled laws os h (drop HEAD_LENGTH part) (omega (arith, length-drop HEAD_LENGTH part))
 
@@ -139,7 +154,7 @@ IsSmall (Ok h) = total h ≤ MESSAGE_LIMIT
 IsSmall (Err fault) = Unit {0}
 
 framed_small : (h : Head) → IsSmall (framed h)
-framed_small h = go (nat_lt MESSAGE_LIMIT (total h)) refl (not (flags_fit h)) (more_in h.flags && not (total h % 8 == 0))
+framed_small h = go (nat_lt MESSAGE_LIMIT (total h)) refl (not (flags_fit h)) (more_in h && not (total h % 8 == 0))
   where
     go : (b : Bool) → nat_lt MESSAGE_LIMIT (total h) ≡ b → (d k : Bool) →
         IsSmall (cond b (Err (faults.TooLarge (total h))) (cond d (Err (faults.Malformed causes.Flags 6))

@@ -4,10 +4,10 @@ use Rattle.std.specs.Prelude.{nat_lt, ◌==◌, is_some, slice_get, slice_set, r
 use Rattle.std.specs.List.{position_or_len}
 use Rattle.std.proofs.lemmas.List.{map-append, map-set, length-map, append-nil}
 use Rattle.std.proofs.lemmas.Option.{slice_get-map}
-use Rattle.giop_messages.specs.declared.heads.Head.{Head}
-use Rattle.giop_messages.specs.Heads.{more_in}
-use Rattle.giop_messages.specs.declared.heads.TheConstants.{HEAD_LENGTH, MESSAGE_LIMIT}
 use Rattle.cdr_codec.specs.Orders.{order_of}
+use Rattle.giop_messages.specs.declared.heads.Head.{Head}
+use Rattle.giop_messages.specs.declared.heads.TheConstants.{HEAD_LENGTH, MESSAGE_LIMIT}
+use Rattle.giop_messages.specs.Heads.{more_in}
 use Rattle.giop_stream.specs.declared.begun.TheConstants.{FRAGMENT_HEAD}
 use Rattle.giop_stream.specs.declared.faults.StreamFault.{StreamFault}
 use Rattle.giop_stream.specs.declared.faults.StreamFault.TheVariants as faults
@@ -84,17 +84,17 @@ fragment_agrees os more part (Ok id) =
 fragment_agrees os more part (Err fault) = tt
 
 by_kind : (os : List Begun) (h : Head) (part : List ℕ) (fragment_sign more_sign : Bool)
-    → Agrees (if fragment_sign then fragment_by os (more_in h.flags) part (id_in (order_of h.flags) part)
+    → Agrees (if fragment_sign then fragment_by os (more_in h) part (id_in (order_of h.flags) part)
     else (if more_sign then begins_by os h part (id_in (order_of h.flags) part) else gave os (message_of h (drop HEAD_LENGTH part))))
-    (if fragment_sign then tally_fragment (briefs os) (more_in h.flags) part (id_in (order_of h.flags) part)
+    (if fragment_sign then tally_fragment (briefs os) (more_in h) part (id_in (order_of h.flags) part)
     else (if more_sign then tally_first (briefs os) part (id_in (order_of h.flags) part) else briefs os))
-by_kind os h part true more_sign = fragment_agrees os (more_in h.flags) part (id_in (order_of h.flags) part)
+by_kind os h part true more_sign = fragment_agrees os (more_in h) part (id_in (order_of h.flags) part)
 by_kind os h part false true = begins_agrees os h part (id_in (order_of h.flags) part)
 by_kind os h part false false = gave_agrees os (briefs os) (message_of h (drop HEAD_LENGTH part)) refl
 
 tally_agrees : (os : List Begun) (h : Head) (part : List ℕ) → Agrees (turn os h part) (tally (briefs os) h part)
 unfolding turn tally
-tally_agrees os h part = by_kind os h part (is_fragment h.kind) (more_in h.flags)
+tally_agrees os h part = by_kind os h part (is_fragment h.kind) (more_in h)
 
 -- ---- over the bytes that wait
 

@@ -1,6 +1,6 @@
 -- Messages that are written back to back stream as those messages.
-use Rattle.std.proofs.Common.{◌≡◌, ℕ, ◌+◌, ◌<◌, ◌≤◌, ◌++◌, ◌∷◌, [], true, false, List, length, take, drop, Result, Ok, refl, sym, ap, ◌∙◌, arith, length-append}
-use Rattle.std.specs.Prelude.{nat_lt, flat_map}
+use Rattle.std.proofs.Common.{◌≡◌, ℕ, ◌+◌, ◌<◌, ◌≤◌, ◌++◌, ◌∷◌, [], Bool, true, false, cond, List, length, take, drop, Result, Ok, Err, refl, sym, ap, ◌∙◌, arith, length-append}
+use Rattle.std.specs.Prelude.{◌&&◌, ◌==◌, ◌%◌, not, nat_lt, flat_map}
 use Rattle.std.specs.List.{AllByRecursion}
 use Rattle.std.proofs.Math.ListN.{drop_of_length-le}
 use Rattle.std.proofs.lemmas.Bool.{cond-false, le-ltb}
@@ -9,51 +9,75 @@ use Rattle.cdr_codec.specs.declared.orders.Order.{Order}
 use Rattle.cdr_codec.specs.declared.orders.Order.TheVariants.{Big, Little}
 use Rattle.cdr_codec.specs.Reading.{Fault}
 use Rattle.giop_messages.specs.declared.faults.Why.{Why}
+use Rattle.giop_messages.specs.declared.forms.Form.{Form}
 use Rattle.giop_messages.specs.declared.heads.Head.{Head}
 use Rattle.giop_messages.specs.declared.heads.Kind.{Kind}
-use Rattle.giop_messages.specs.Heads.{flags_fit, head_in, header}
 use Rattle.giop_messages.specs.declared.heads.TheConstants.{HEAD_LENGTH, MESSAGE_LIMIT}
-use Rattle.giop_messages.specs.Messages.{kind_in}
-use Rattle.giop_messages.specs.Writing.{written_payload}
+use Rattle.giop_messages.specs.Heads.{flags_fit, has_kind, head_in, header, more_in}
+use Rattle.giop_messages.specs.Messages.{giop, kind_in}
+use Rattle.giop_messages.specs.Writing.{whole_head, written_payload}
 use Rattle.giop_messages.specs.Laws.{MessagesAreReadBack}
 use Rattle.giop_stream.specs.declared.fronts.Front.TheVariants.{Whole}
+use Rattle.giop_stream.specs.declared.faults.StreamFault.{StreamFault}
 use Rattle.giop_stream.specs.Faults.{told}
 use Rattle.giop_stream.specs.Fronts.{framed, framed_by, front, fronted, head_at, total}
-use Rattle.giop_stream.specs.Parts.{Begun, Gives, Received, Turn, fragment, gave, is_fragment, message_of, turn}
+use Rattle.giop_stream.specs.Parts.{Begun, Gives, Received, Turn, fragment, gave, is_fragment, message_of, turn, begins}
 use Rattle.giop_stream.specs.Streams.{Rest, behind, stream, stream_on, turned}
 use Rattle.giop_stream.specs.Written.{IsWritable, written}
 use Rattle.giop_stream.proofs.StreamLaws.{front_long, no_part, whole_part, whole_stays}
-use Rattle.giop_stream.proofs.SpelledLaws.{Laws, sign_fits, sign_small, sized_head, twelve}
+use Rattle.giop_stream.proofs.SpelledLaws.{Laws, sign_fits, sign_small, twelve}
 
 -- ---- a header that announces no fragments, and what stands behind it
 
-pub framed_is : (order : Order) (kind : Kind) (size : ℕ) → HEAD_LENGTH + size ≤ MESSAGE_LIMIT → framed (sized_head order kind size) ≡ Ok (sized_head order kind size)
-framed_is Big kind size h = cond-false (nat_lt MESSAGE_LIMIT (HEAD_LENGTH + size)) _ _ (le-ltb MESSAGE_LIMIT (HEAD_LENGTH + size) h)
-framed_is Little kind size h = cond-false (nat_lt MESSAGE_LIMIT (HEAD_LENGTH + size)) _ _ (le-ltb MESSAGE_LIMIT (HEAD_LENGTH + size) h)
+-- nothing is announced, whatever the minor version
+quiet : (b : Bool) → (b && false) ≡ false
+quiet true = refl
+quiet false = refl
+
+unless_even : (h : Head) (b : Bool) (fault : StreamFault) → (b && false) ≡ false → cond {A = Result Head StreamFault} ((b && false) && not (total h % 8 == 0)) (Err fault) (Ok h) ≡ Ok h
+unless_even h b fault e = ap (λ (d : Bool). cond {A = Result Head StreamFault} (d && not (total h % 8 == 0)) (Err fault) (Ok h)) e
+
+framed_in : (minor : ℕ) (order : Order) (kind : Kind) (size : ℕ) → HEAD_LENGTH + size ≤ MESSAGE_LIMIT
+    → framed (whole_head (giop minor order) kind size) ≡ Ok (whole_head (giop minor order) kind size)
+framed_in minor Big kind size h =
+    cond-false (nat_lt MESSAGE_LIMIT (HEAD_LENGTH + size)) _ _ (le-ltb MESSAGE_LIMIT (HEAD_LENGTH + size) h)
+    ∙ unless_even (whole_head (giop minor Big) kind size) (minor == 2) _ (quiet (minor == 2))
+framed_in minor Little kind size h =
+    cond-false (nat_lt MESSAGE_LIMIT (HEAD_LENGTH + size)) _ _ (le-ltb MESSAGE_LIMIT (HEAD_LENGTH + size) h)
+    ∙ unless_even (whole_head (giop minor Little) kind size) (minor == 2) _ (quiet (minor == 2))
+
+pub framed_is : (form : Form) (kind : Kind) (size : ℕ) → HEAD_LENGTH + size ≤ MESSAGE_LIMIT → framed (whole_head form kind size) ≡ Ok (whole_head form kind size)
+framed_is form kind size h = framed_in form.minor form.order kind size h
 
 head_at_is : (bytes : List ℕ) (h : Head) → head_in bytes ≡ Ok h → framed h ≡ Ok h → head_at bytes ≡ Ok h
 unfolding head_at
 head_at_is bytes h read fits = ap (λ (r : Result Head (Fault Why)). framed_by (told r)) read ∙ fits
 
 -- this header is judged at the front of the bytes that begin with it
-pub front_of_written : Laws → (h : Head) (payload : List ℕ) → length (header.written Big 0 h) ≡ HEAD_LENGTH → h.flags < 256 → h.size ≡ length payload
+pub front_of_written : Laws → (h : Head) (payload : List ℕ) → has_kind h.minor h.kind ≡ true → length (header.written Big 0 h) ≡ HEAD_LENGTH → h.flags < 256 → h.size ≡ length payload
     → total h ≤ MESSAGE_LIMIT → framed h ≡ Ok h → front (header.written Big 0 h ++ payload) ≡ Whole h
-front_of_written laws h payload long flags size small fits =
+front_of_written laws h payload there long flags size small fits =
     let head = header.written Big 0 h in
     let whole : length (head ++ payload) ≡ total h = omega (arith, length-append head payload) in
-    let alone : head_in head ≡ Ok h = ap head_in (sym (append-nil head)) ∙ laws.headers h [] flags (omega arith) in
+    let alone : head_in head ≡ Ok h = ap head_in (sym (append-nil head)) ∙ laws.headers h [] there flags (omega arith) in
     let at : head_at (take HEAD_LENGTH (head ++ payload)) ≡ Ok h = ap head_at (take_at head payload HEAD_LENGTH long) ∙ head_at_is head h alone fits in
     front_long (head ++ payload) (omega arith) ∙ ap (fronted (head ++ payload)) at ∙ whole_stays (head ++ payload) h (omega arith)
 
 -- ---- one message
 
-whole_turn : (os : List Begun) (order : Order) (kind : Kind) (size : ℕ) (part : List ℕ) (m : Received) → is_fragment kind ≡ false
-    → message_of (sized_head order kind size) (drop HEAD_LENGTH part) ≡ Ok m → turn os (sized_head order kind size) part ≡ Gives m os
+-- no more is to follow
+last_in : (minor : ℕ) (order : Order) (kind : Kind) (size : ℕ) → more_in (whole_head (giop minor order) kind size) ≡ false
+last_in minor Big kind size = quiet (minor == 2)
+last_in minor Little kind size = quiet (minor == 2)
+
+whole_turn : (os : List Begun) (form : Form) (kind : Kind) (size : ℕ) (part : List ℕ) (m : Received) → is_fragment kind ≡ false
+    → message_of (whole_head form kind size) (drop HEAD_LENGTH part) ≡ Ok m → turn os (whole_head form kind size) part ≡ Gives m os
 unfolding turn
-whole_turn os Big kind size part m own read =
-    cond-false (is_fragment kind) (fragment os (sized_head Big kind size) part) (gave os (message_of (sized_head Big kind size) (drop HEAD_LENGTH part))) own ∙ ap (gave os) read
-whole_turn os Little kind size part m own read =
-    cond-false (is_fragment kind) (fragment os (sized_head Little kind size) part) (gave os (message_of (sized_head Little kind size) (drop HEAD_LENGTH part))) own ∙ ap (gave os) read
+whole_turn os form kind size part m own read =
+    let h = whole_head form kind size in
+    let whole = gave os (message_of h (drop HEAD_LENGTH part)) in
+    cond-false (is_fragment kind) (fragment os h part) (cond (more_in h) (begins os h part) whole) own
+    ∙ cond-false (more_in h) (begins os h part) whole (last_in form.minor form.order kind size) ∙ ap (gave os) read
 
 pub message_of_written : Laws → MessagesAreReadBack → (m : Received) (h : Head) → IsWritable m → flags_fit h ≡ true → length (written m) ≡ HEAD_LENGTH + h.size
     → head_in (written m) ≡ Ok h → message_of h (drop HEAD_LENGTH (written m)) ≡ Ok m
@@ -68,13 +92,13 @@ pub written_first : Laws → MessagesAreReadBack → (os : List Begun) (m : Rece
     → stream_on os (written m ++ more) ≡ behind (m ∷ []) (stream_on os more)
 written_first laws back os m more w =
     let payload = written_payload m.1 m.0 in
-    let h = sized_head m.1 (kind_in m.0) (length payload) in
+    let h = whole_head m.1 (kind_in m.0) (length payload) in
     let long : length (header.written Big 0 h) ≡ HEAD_LENGTH = twelve m.1 (kind_in m.0) (length payload) in
     let whole : length (written m) ≡ total h = omega (arith, length-append (header.written Big 0 h) payload) in
     let small : total h ≤ MESSAGE_LIMIT = omega (arith, w.writable.sized) in
     let at : front (written m) ≡ Whole h =
-    front_of_written laws h payload long (sign_small m.1) refl small (framed_is m.1 (kind_in m.0) (length payload) small) in
-    let read : head_in (written m) ≡ Ok h = laws.headers h payload (sign_small m.1) (omega arith) in
+    front_of_written laws h payload w.writable.possible long (sign_small m.1.order) refl small (framed_is m.1 (kind_in m.0) (length payload) small) in
+    let read : head_in (written m) ≡ Ok h = laws.headers h payload w.writable.possible (sign_small m.1.order) (omega arith) in
     let all : take (total h) (written m) ≡ written m = take_all (total h) (written m) (omega arith) in
     let none : drop (total h) (written m) ≡ [] = drop_of_length-le (written m) (omega arith) in
     let is : turn os h (written m) ≡ Gives m os =

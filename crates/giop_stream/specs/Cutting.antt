@@ -14,9 +14,9 @@ use Rattle.giop_stream.specs.Parts.{Received}
 use Rattle.giop_stream.specs.Streams.{Rest, stream}
 use Rattle.giop_stream.specs.Written.{IsWritable, written}
 
--- the header of a part; bit 1 of the flags says that more follow
+-- the header of a part, which only 1.2 has; bit 1 of the flags says that more follow
 abbrev pub part_head : Order → Kind → Bool → ℕ → Head
-part_head order kind more size = record { flags = order_sign order + (if more then 2 else 0); kind = kind; size = size }
+part_head order kind more size = record { minor = 2; flags = order_sign order + (if more then 2 else 0); kind = kind; size = size }
 
 abbrev pub part : Order → Kind → Bool → List ℕ → List ℕ
 part order kind more payload = header.written Big 0 (part_head order kind more (length payload)) ++ payload
@@ -53,10 +53,11 @@ AreSent (s ∷ sent) = IsSent s × AreSent sent
 
 -- The message is cut behind its request id into a first part, further ones and a last one.
 pub record IsCut (m : Received) (id : ℕ) (first : List ℕ) (sent : List Sent) (last : List ℕ) : Type 0 where
+  pub of_1_2 : m.1.minor ≡ 2
   pub writable : IsWritable m
   pub parts : has_parts (kind_in m.0) ≡ true
   pub id_fits : id < 2 ^ 32
-  pub is : written_payload m.1 m.0 ≡ (digits_in m.1 4 id ++ first) ++ (flat_map rest_in sent ++ last)
+  pub is : written_payload m.1 m.0 ≡ (digits_in m.1.order 4 id ++ first) ++ (flat_map rest_in sent ++ last)
   pub first_fits : length first % 8 ≡ 0
   pub each : AreSent sent
 
@@ -64,5 +65,5 @@ pub record IsCut (m : Received) (id : ℕ) (first : List ℕ) (sent : List Sent)
 -- stand between the parts.
 abbrev pub CutAreJoined : Type 0
 CutAreJoined = (m : Received) (id : ℕ) (first : List ℕ) (sent : List Sent) (last : List ℕ) → IsCut m id first sent last
-    → stream (part m.1 (kind_in m.0) true (digits_in m.1 4 id ++ first) ++ (flat_map (sent_bytes m.1 id) sent ++ fragment_of m.1 id false last))
+    → stream (part m.1.order (kind_in m.0) true (digits_in m.1.order 4 id ++ first) ++ (flat_map (sent_bytes m.1.order id) sent ++ fragment_of m.1.order id false last))
     ≡ record { messages = flat_map other_in sent ++ m ∷ []; end = Rest 0 }

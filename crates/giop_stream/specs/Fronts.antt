@@ -26,7 +26,7 @@ abbrev pub framed : Head → Result Head StreamFault
 framed h =
     if nat_lt MESSAGE_LIMIT (total h) then Err (faults.TooLarge (total h))
     else (if not (flags_fit h) then Err (faults.Malformed causes.Flags 6)
-    else (if more_in h.flags && not (total h % 8 == 0) then Err (faults.Malformed causes.Length 8)
+    else (if more_in h && not (total h % 8 == 0) then Err (faults.Malformed causes.Length 8)
     else Ok h))
 
 abbrev pub framed_by : Result Head StreamFault → Result Head StreamFault

@@ -8,5 +8,6 @@ pub mod Steps
 pub mod Tallies
 pub mod Sessions
 pub mod Spelled
+pub mod Replies
 pub mod Written
 pub mod Cutting

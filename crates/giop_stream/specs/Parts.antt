@@ -3,6 +3,7 @@ use Rattle.std.specs.Prelude.{◌≡◌, ℕ, ◌+◌, ◌==◌, nat_lt, if◌th
 use Rattle.cdr_codec.specs.declared.orders.Order.{Order}
 use Rattle.cdr_codec.specs.Reading.{reader_at, ◌>>=◌}
 use Rattle.giop_messages.specs.declared.faults.Why.TheVariants as causes
+use Rattle.giop_messages.specs.declared.forms.Form.{Form}
 use Rattle.giop_messages.specs.declared.heads.Head.{Head}
 use Rattle.giop_messages.specs.declared.heads.Kind.{Kind}
 use Rattle.giop_messages.specs.declared.heads.Kind.TheVariants as kinds
@@ -18,12 +19,12 @@ use Rattle.giop_stream.specs.declared.faults.StreamFault.TheVariants as faults
 use Rattle.cdr_codec.specs.Calls.{OnFault}
 use Rattle.giop_stream.specs.Faults.{told, link_fault}
 
--- a message and its byte order
+-- a message and its form
 abbrev pub Received : Type 0
-Received = Message × Order
+Received = Message × Form
 
 -- The message of this header whose fields these bytes are, or what is wrong with it. Of the header its type
--- and byte order count.
+-- and form count.
 unfoldable pub message_of : Head → List ℕ → Result Received StreamFault
 message_of h payload = told (fields_in h payload)
 
@@ -113,7 +114,7 @@ fragment_by os more part (Ok id) = fragment_at os more (drop FRAGMENT_HEAD part)
 fragment_by os more part (Err fault) = Fails fault
 
 abbrev pub fragment : List Begun → Head → List ℕ → Turn
-fragment os h part = fragment_by os (more_in h.flags) part (id_in (order_of h.flags) part)
+fragment os h part = fragment_by os (more_in h) part (id_in (order_of h.flags) part)
 
 abbrev pub is_fragment : Kind → Bool
 is_fragment kinds.Request = false
@@ -129,7 +130,7 @@ is_fragment kinds.Fragment = true
 unfoldable pub turn : List Begun → Head → List ℕ → Turn
 turn os h part =
     if is_fragment h.kind then fragment os h part
-    else (if more_in h.flags then begins os h part else gave os (message_of h (drop HEAD_LENGTH part)))
+    else (if more_in h then begins os h part else gave os (message_of h (drop HEAD_LENGTH part)))
 
 -- ---- what a call did
 

@@ -10,7 +10,7 @@ use Rattle.giop_stream.specs.Parts.{Received}
 use Rattle.giop_stream.specs.Streams.{stream}
 use Rattle.giop_stream.specs.Frames.{Frames, Passes}
 
--- some bytes, of at most 1 MiB, spell the message in its byte order
+-- some bytes, of at most 1 MiB, spell the message in its form
 pub record IsSpelled (m : Received) : Type 0 where
   pub bytes : List ℕ
   pub small : length bytes ≤ MESSAGE_LIMIT

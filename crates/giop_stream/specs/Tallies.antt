@@ -46,8 +46,8 @@ tally_first bs part (Err fault) = bs
 -- the begun messages after a whole message or part that is at no fault
 unfoldable pub tally : List Brief → Head → List ℕ → List Brief
 tally bs h part =
-    if is_fragment h.kind then tally_fragment bs (more_in h.flags) part (id_in (order_of h.flags) part)
-    else (if more_in h.flags then tally_first bs part (id_in (order_of h.flags) part) else bs)
+    if is_fragment h.kind then tally_fragment bs (more_in h) part (id_in (order_of h.flags) part)
+    else (if more_in h then tally_first bs part (id_in (order_of h.flags) part) else bs)
 
 -- these bytes, where such messages are begun, leave so many that belong to no whole message
 pub record Left (bs : List Brief) (bytes : List ℕ) (n : ℕ) : Type 0 where

@@ -9,7 +9,9 @@ use crate::faults::StreamFault;
 use crate::tallies::{Brief, Tally};
 use cdr_codec::{CdrReader, Order};
 use ft_base::NoMemory;
-use giop_messages::{HEAD_LENGTH, Head, Kind, MESSAGE_LIMIT, Malformed, Message, Why, read_fields};
+use giop_messages::{
+    Form, HEAD_LENGTH, Head, Kind, MESSAGE_LIMIT, Malformed, Message, Why, read_fields,
+};
 use smallvec::SmallVec;
 use std::alloc::Global;
 use std::default::MadeWith;
@@ -58,6 +60,7 @@ impl MadeWith<Global> for Opened {
         Opened {
             id: 0,
             head: Head {
+                minor: 2,
                 flags: 0,
                 kind: Kind::Request,
                 size: 0,
@@ -70,7 +73,7 @@ impl MadeWith<Global> for Opened {
 
 #[tactic(auto, unfolding(crate::specs::Parts::message_of))]
 #[inline(always)]
-fn read_whole(alloc: Global, head: Head, payload: &[u8]) -> Result<(Message, Order), StreamFault>
+fn read_whole(alloc: Global, head: Head, payload: &[u8]) -> Result<(Message, Form), StreamFault>
     requires { length payload.now ≤ MESSAGE_LIMIT }
     ensures { Tells (λ m. m) link_fault result (message_of head payload.now) }
 {
@@ -139,7 +142,7 @@ impl Opened {
     }
 
     /// The whole message, which this rest ends. The rest is appended only while the message is read.
-    fn join(&mut self, alloc: Global, rest: &[u8]) -> Result<(Message, Order), StreamFault>
+    fn join(&mut self, alloc: Global, rest: &[u8]) -> Result<(Message, Form), StreamFault>
         requires { joined_size self.old rest.now ≤ MESSAGE_LIMIT }
         ensures value { Tells (λ m. m) link_fault result (message_of self.old.head (self.old.payload ++ rest.now)) }
         ensures same { self.new ≡ self.old }
@@ -305,7 +308,7 @@ impl Partials {
         alloc: Global,
         at: usize,
         rest: &[u8],
-    ) -> Result<(Message, Order), StreamFault>
+    ) -> Result<(Message, Form), StreamFault>
         requires within { at < length self.old }
         requires fits { (o : Begun) → slice_get self.old at ≡ Some o → joined_size o rest.now ≤ MESSAGE_LIMIT }
         ensures value { (o : Begun) → slice_get self.old at ≡ Some o → Tells (λ m. m) link_fault result (message_of o.head (o.payload ++ rest.now)) }
@@ -333,7 +336,7 @@ impl Partials {
         alloc: Global,
         head: Head,
         part: &[u8],
-    ) -> Result<Option<(Message, Order)>, StreamFault>
+    ) -> Result<Option<(Message, Form)>, StreamFault>
         requires long { HEAD_LENGTH ≤ length part.now }
         requires small { length part.now ≤ MESSAGE_LIMIT }
         ensures { Turned result self.old (begins self.old head part.now) self.new }
@@ -353,7 +356,7 @@ impl Partials {
         alloc: Global,
         at: usize,
         rest: &[u8],
-    ) -> Result<Option<(Message, Order)>, StreamFault>
+    ) -> Result<Option<(Message, Form)>, StreamFault>
         requires within { at < length self.old }
         requires fits { (o : Begun) → slice_get self.old at ≡ Some o → joined_size o rest.now ≤ MESSAGE_LIMIT }
         ensures { (o : Begun) → slice_get self.old at ≡ Some o → Turned result self.old (completes self.old at o rest.now) self.new }
@@ -370,7 +373,7 @@ impl Partials {
         at: usize,
         more: bool,
         rest: &[u8],
-    ) -> Result<Option<(Message, Order)>, StreamFault>
+    ) -> Result<Option<(Message, Form)>, StreamFault>
         requires within { at < length self.old }
         requires small { length rest.now ≤ MESSAGE_LIMIT }
         ensures { (o : Begun) → slice_get self.old at ≡ Some o → Turned result self.old (grows_at self.old at more rest.now (Some o)) self.new }
@@ -391,7 +394,7 @@ impl Partials {
         alloc: Global,
         head: Head,
         part: &[u8],
-    ) -> Result<Option<(Message, Order)>, StreamFault>
+    ) -> Result<Option<(Message, Form)>, StreamFault>
         requires long { HEAD_LENGTH ≤ length part.now }
         requires small { length part.now ≤ MESSAGE_LIMIT }
         ensures { Turned result self.old (fragment self.old head part.now) self.new }
@@ -411,7 +414,7 @@ impl Partials {
         alloc: Global,
         head: Head,
         part: &[u8],
-    ) -> Result<Option<(Message, Order)>, StreamFault>
+    ) -> Result<Option<(Message, Form)>, StreamFault>
         requires long { HEAD_LENGTH ≤ length part.now }
         requires small { length part.now ≤ MESSAGE_LIMIT }
         ensures { Turned result self.old (turn self.old head part.now) self.new }

@@ -14,9 +14,8 @@ use crate::buffers::Buffer;
 use crate::faults::StreamFault;
 use crate::fronts::{Front, front_by, read_header};
 use crate::laws::streams_are_spelled;
-use cdr_codec::Order;
 use ft_base::NoMemory;
-use giop_messages::{HEAD_LENGTH, Head, Message};
+use giop_messages::{Form, HEAD_LENGTH, Head, Message};
 use std::alloc::Global;
 use std::marker::Model;
 
@@ -75,7 +74,7 @@ enum Step {
     Waits,
     /// A part joined a begun message, or began one.
     Joins,
-    Gives((Message, Order)),
+    Gives((Message, Form)),
 }
 
 impl Framer {
@@ -170,7 +169,7 @@ impl Framer {
 
     /// Takes the whole message or part at the front. Where no byte is left behind it, a whole header is missing.
     #[tactic(auto, using(crate::proofs::FrameLaws::kept_taken))]
-    fn take(&mut self, head: Head) -> Result<Option<(Message, Order)>, StreamFault>
+    fn take(&mut self, head: Head) -> Result<Option<(Message, Form)>, StreamFault>
         requires going { self.old.stopped ≡ None }
         requires small { total head ≤ MESSAGE_LIMIT }
         requires within { total head ≤ length self.old.rest }
@@ -215,7 +214,7 @@ impl Framer {
     }
 
     #[tactic(auto, using(crate::proofs::FrameLaws::passes_self, crate::proofs::FrameLaws::passes_on, crate::proofs::FrameLaws::advanced_waits))]
-    fn advance(&mut self) -> Result<Option<(Message, Order)>, StreamFault>
+    fn advance(&mut self) -> Result<Option<(Message, Form)>, StreamFault>
         requires { self.old.stopped ≡ None }
         ensures advances { Advances result self.old self.new }
         ensures spelled { OnGiven result IsSpelled }
@@ -280,12 +279,12 @@ impl Framer {
         self.append(piece)
     }
 
-    /// The next message, with its byte order; `None` where no further one is whole.
+    /// The next message, with its form; `None` where no further one is whole.
     ///
     /// `NoMemory` is answered anew until there is memory, and loses nothing. Each other fault is answered
     /// for ever, whatever is fed: a link at fault can't be read on.
     #[tactic(auto, using(crate::proofs::FrameLaws::has_next, crate::proofs::FrameLaws::next_stopped))]
-    pub fn next(&mut self) -> Result<Option<(Message, Order)>, StreamFault>
+    pub fn next(&mut self) -> Result<Option<(Message, Form)>, StreamFault>
         ensures next { (fed : List ℕ) (given : List Received) → Stands self.old fed given → HasNext result fed given self.new }
         ensures spelled { OnGiven result IsSpelled }
         ensures shorter { Shortens result self.old self.new }

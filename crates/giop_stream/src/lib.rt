@@ -1,4 +1,4 @@
-//! A link read in pieces: which messages of GIOP 1.2 come in its bytes, with their fragments joined.
+//! A link read in pieces: which messages of GIOP come in its bytes, with the fragments of 1.2 joined.
 //! (GIOP chapter, "GIOP Message Header" and "Fragment Message".)
 //!
 //! `specs/` say it of the whole list of bytes (`stream`); the framer is fed pieces of it.
@@ -36,10 +36,12 @@ mod faults;
 mod framers;
 mod fronts;
 mod laws;
+mod replies;
 mod sessions;
 mod tallies;
 
 pub use faults::StreamFault;
 pub use framers::Framer;
 pub use laws::{cut_are_joined, streams_are_spelled, written_are_streamed};
+pub use replies::{ReplySession, ReplyStep};
 pub use sessions::{Session, SessionStep, StreamEnd};

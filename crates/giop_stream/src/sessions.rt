@@ -9,9 +9,8 @@ ghost use Rattle.giop_stream.specs.Sessions.{AreAll, Goes, IsOfLink, IsShorter, 
 
 use crate::faults::StreamFault;
 use crate::framers::Framer;
-use cdr_codec::Order;
 use ft_base::NoMemory;
-use giop_messages::{Message, Why};
+use giop_messages::{Form, Message, Why};
 use std::alloc::Global;
 use std::marker::Model;
 
@@ -30,8 +29,8 @@ pub enum StreamEnd {
 /// What a session comes to next.
 #[derive(Drop)]
 pub enum SessionStep {
-    /// A message to be served, with its byte order.
-    Serve((Message, Order)),
+    /// A message to be served, with its form.
+    Serve((Message, Form)),
     /// No further message is whole: more bytes are wanted.
     Wait,
     /// The link has ended, whatever follows.
@@ -82,7 +81,7 @@ fn end_by(message: &Message) -> Option<StreamEnd>
 }
 
 // The end of a link behind its last whole message: so many bytes are left.
-fn rest_end(count: u32) -> StreamEnd
+pub fn rest_end(count: u32) -> StreamEnd
     ensures { result ≡ rest_end count }
 {
     if count == 0 {
@@ -96,7 +95,7 @@ fn rest_end(count: u32) -> StreamEnd
 }
 
 // The end of a link at a fault of its bytes.
-fn fault_end(fault: StreamFault) -> Result<StreamEnd, NoMemory>
+pub fn fault_end(fault: StreamFault) -> Result<StreamEnd, NoMemory>
     ensures end { IfOk result (λ end. end ≡ fault_end fault) }
     ensures link { OnOk result (IsOfLink fault) }
 {
@@ -108,13 +107,13 @@ fn fault_end(fault: StreamFault) -> Result<StreamEnd, NoMemory>
 }
 
 impl Session {
-    fn ended(&self) -> Option<StreamEnd>
+    pub(crate) fn ended(&self) -> Option<StreamEnd>
         ensures { result ≡ self.now.ended }
     {
         self.ended
     }
 
-    fn end(&mut self, end: StreamEnd) -> SessionStep
+    pub(crate) fn end(&mut self, end: StreamEnd) -> SessionStep
         ensures step { result ≡ SessionStep.End end }
         ensures ended { self.new ≡ record self.old { ended = Some end } }
     {
@@ -122,14 +121,14 @@ impl Session {
         SessionStep::End(end)
     }
 
-    fn unfinished(&self) -> u32
+    pub(crate) fn unfinished(&self) -> u32
         ensures { (fed : List ℕ) (given ms : List Received) (n : ℕ) → Stands self.now.frames fed given
             → stream fed ≡ record { messages = ms; end = Rest n } → result ≡ n }
     {
         self.framer.unfinished()
     }
 
-    fn read(&mut self) -> Result<Option<(Message, Order)>, StreamFault>
+    pub(crate) fn read(&mut self) -> Result<Option<(Message, Form)>, StreamFault>
         ensures next { (fed : List ℕ) (given : List Received) → Stands self.old.frames fed given → HasNext result fed given self.new.frames }
         ensures spelled { OnGiven result IsSpelled }
         ensures shorter { Shortens result self.old.frames self.new.frames }
@@ -138,7 +137,7 @@ impl Session {
         self.framer.next()
     }
 
-    fn append(&mut self, piece: &[u8]) -> Result<(), NoMemory>
+    pub(crate) fn append(&mut self, piece: &[u8]) -> Result<(), NoMemory>
         ensures ok { OnOk result ((fed : List ℕ) (given : List Received) → Stands self.old.frames fed given
             → Stands self.new.frames (fed ++ piece.now) given) }
         ensures ended { self.new.ended ≡ self.old.ended }
@@ -148,7 +147,7 @@ impl Session {
     }
 
     // A message came, which may end the link.
-    fn take(&mut self, received: (Message, Order)) -> SessionStep
+    fn take(&mut self, received: (Message, Form)) -> SessionStep
         ensures { Takes result received self.old self.new }
     {
         match end_by(&received.0) {
@@ -192,6 +191,13 @@ impl Session {
     #[tactic(auto, using(crate::proofs::SessionLaws::serves_over))]
     pub fn over(alloc: Global, bytes: Vec<u8>) -> Session
         ensures { Serves result bytes.items [] }
+    {
+        Session::begin(alloc, bytes)
+    }
+
+    pub(crate) fn begin(alloc: Global, bytes: Vec<u8>) -> Session
+        ensures going { result.ended ≡ None }
+        ensures stands { Stands result.frames bytes.items [] }
     {
         Session {
             framer: Framer::over(alloc, bytes),

@@ -134,7 +134,7 @@ impl Tally {
     fn fragment(&mut self, head: Head, part: &[u8])
         requires long { HEAD_LENGTH ≤ length part.now }
         requires small { length part.now ≤ MESSAGE_LIMIT }
-        ensures { self.new ≡ tally_fragment self.old (more_in head.flags) part.now (id_in (order_of head.flags) part.now) }
+        ensures { self.new ≡ tally_fragment self.old (more_in head) part.now (id_in (order_of head.flags) part.now) }
     {
         match read_id(head.order(), part) {
             Ok(id) => match self.place_of(id) {

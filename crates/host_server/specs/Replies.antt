@@ -1,5 +1,5 @@
 -- What a request is answered, as a Reply. (GIOP chapter, "Reply Message", "Reply Body".)
-use Rattle.std.specs.Prelude.{◌≤◌, ℕ, Bool, List, [], length, if◌then◌else◌, Option}
+use Rattle.std.specs.Prelude.{◌≤◌, ◌==◌, ◌&&◌, ℕ, Bool, List, [], length, if◌then◌else◌, Option}
 use Rattle.ft_base.specs.Canonical.{IsCanonical, one_of}
 use Rattle.ft_base.specs.declared.limits.TheConstants.{RESULT_LIMIT}
 use Rattle.ft_base.specs.declared.requests.Par.{Par}
@@ -16,6 +16,7 @@ use Rattle.iogr_reference.specs.declared.references.Ior.{Ior}
 use Rattle.iogr_reference.specs.Choices.{repository_id}
 use Rattle.iogr_reference.specs.Formats.{ior, IsWritable}
 use Rattle.giop_messages.specs.declared.statuses.TheConstants.{NO_EXCEPTION, USER_EXCEPTION, SYSTEM_EXCEPTION, LOCATION_FORWARD, LOCATION_FORWARD_PERM, UNKNOWN_OBJECT, OBJECT_HERE}
+use Rattle.giop_messages.specs.declared.forms.Form.{Form}
 use Rattle.giop_messages.specs.declared.messages.Message.{Message}
 use Rattle.giop_messages.specs.declared.messages.Message.TheVariants.{Reply, LocateReply}
 use Rattle.host_server.specs.declared.answers.PortAnswer.{PortAnswer}
@@ -52,14 +53,15 @@ abbrev pub outcome_status : Outcome → ℕ
 outcome_status (Value value) = NO_EXCEPTION
 outcome_status (User name) = USER_EXCEPTION
 
-abbrev pub forward_status : Bool → ℕ
-forward_status perm = if perm then LOCATION_FORWARD_PERM else LOCATION_FORWARD
+-- from now on, where the asker's minor version has such a status
+abbrev pub forward_status : ℕ → Bool → ℕ
+forward_status minor perm = if perm && minor == 2 then LOCATION_FORWARD_PERM else LOCATION_FORWARD
 
-abbrev pub status_of : PortAnswer → ℕ
-status_of NoGroup = SYSTEM_EXCEPTION
-status_of (Forward perm body) = forward_status perm
-status_of (Done outcome gives) = outcome_status outcome
-status_of (System fault) = SYSTEM_EXCEPTION
+abbrev pub status_of : ℕ → PortAnswer → ℕ
+status_of minor NoGroup = SYSTEM_EXCEPTION
+status_of minor (Forward perm body) = forward_status minor perm
+status_of minor (Done outcome gives) = outcome_status outcome
+status_of minor (System fault) = SYSTEM_EXCEPTION
 
 abbrev pub locate_status_of : Bool → ℕ
 locate_status_of here = if here then OBJECT_HERE else UNKNOWN_OBJECT
@@ -67,12 +69,12 @@ locate_status_of here = if here then OBJECT_HERE else UNKNOWN_OBJECT
 -- ---- messages
 
 -- the Reply to the request with this id; it has no contexts
-abbrev pub reply_to : ℕ → Order → PortAnswer → Message
-reply_to id order answer = Reply (record {
+abbrev pub reply_to : ℕ → Form → PortAnswer → Message
+reply_to id form answer = Reply (record {
   id = id;
-  status = status_of answer;
+  status = status_of form.minor answer;
   contexts = [];
-  body = record { order = order; align = 0; bytes = body_of order answer };
+  body = record { order = form.order; align = 0; bytes = body_of form.order answer };
 })
 
 abbrev pub locate_reply_to : ℕ → Bool → Message

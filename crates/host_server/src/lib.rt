@@ -4,8 +4,8 @@
 //! An answer as the bytes of a Reply:
 //!
 //! ```
-//! let answer = answer_of(alloc, order, answer)?;
-//! let bytes = reply_bytes(alloc, u32::try_from(number(*id)?)?, order, &answer)?;
+//! let answer = answer_of(alloc, form.order, answer)?;
+//! let bytes = reply_bytes(alloc, u32::try_from(number(*id)?)?, form, &answer)?;
 //! ```
 #![tactic(auto)]
 

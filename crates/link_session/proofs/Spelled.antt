@@ -1,5 +1,7 @@
 -- What is spelled by at most 1 MiB has short contexts and a short body.
-use Rattle.std.proofs.Common.{ℕ, ◌≤◌, length, arith}
+use Rattle.std.proofs.Common.{◌≡◌, ℕ, ◌≤◌, ◌<◌, Bool, true, false, length, refl, arith}
+use Rattle.std.specs.Prelude.{◌&&◌, nat_lt}
+use Rattle.std.proofs.lemmas.Bool.{ltb-true}
 use Rattle.std.proofs.lemmas.List.Elements.{All-weaker}
 use Rattle.ft_contexts.specs.declared.lists.Context.{Context}
 use Rattle.ft_contexts.specs.Finding.{IsShort}
@@ -26,3 +28,11 @@ short_by count (messages.Fragment id rest) few within = tt
 
 pub spelled_short : MessagesAreWithin → (m : Received) → IsSpelled m → IsShortMessage m.0
 spelled_short law m s = short_by (length s.bytes) m.0 s.small (law s.bytes m.1 m.0 s.spelled)
+
+first_true : (b d : Bool) → (b && d) ≡ true → b ≡ true
+first_true true d e = refl
+first_true false d e = e
+
+-- a form that there is
+pub spelled_known : (m : Received) → IsSpelled m → m.1.minor < 3
+spelled_known m s = ltb-true m.1.minor 3 (first_true (nat_lt m.1.minor 3) _ s.spelled.possible)

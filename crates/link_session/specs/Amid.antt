@@ -1,6 +1,6 @@
 -- In the midst of a link: what was served so far. The laws here are what a loop over a session rests on.
 use Rattle.std.proofs.Common.{◌≡◌, ℕ, List, [], ◌∷◌, ◌++◌, Option, Some, None, Ok, refl, sym, ap, subst, ◌∙◌, append-nil}
-use Rattle.cdr_codec.specs.declared.orders.Order.{Order}
+use Rattle.giop_messages.specs.declared.forms.Form.{Form}
 use Rattle.giop_messages.specs.declared.messages.Message.{Message}
 use Rattle.giop_stream.specs.declared.sessions.SessionStep.{SessionStep}
 use Rattle.giop_stream.specs.declared.sessions.SessionStep.TheVariants as steps
@@ -99,13 +99,13 @@ module _ {P : Type 0} (port : Port P) where
     writes_grow p None = g.same p
     writes_grow p (Some bytes) = g.writes p bytes
 
-    called_grows : (p : P) (order : Order) (c : Calling) → R p (called port p order c)
-    called_grows p order (Ask id flags key asked) = g.asks p key asked (reply_of id flags order)
-    called_grows p order (Locate id key) = g.writes p (locate_reply_of id order (port.here p key))
-    called_grows p order Nothing = g.same p
+    called_grows : (p : P) (form : Form) (c : Calling) → R p (called port p form c)
+    called_grows p form (Ask id flags key asked) = g.asks p key asked (reply_of id flags form)
+    called_grows p form (Locate id key) = g.writes p (locate_reply_of id form (port.here p key))
+    called_grows p form Nothing = g.same p
 
-    pub step_grows : (p : P) (message : Message) (order : Order) → R p (step port p message order)
-    step_grows p message order = called_grows p order (calling_of message)
+    pub step_grows : (p : P) (message : Message) (form : Form) → R p (step port p message form)
+    step_grows p message form = called_grows p form (calling_of message)
 
     pub served_grows : (p : P) (ms : List Received) → R p (served port p ms)
     unfolding served

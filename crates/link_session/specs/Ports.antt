@@ -1,12 +1,13 @@
 -- What a host makes of a link's messages: to each what is answered, and how the link ends. (GIOP chapter, "GIOP
 -- Message Transfer".)
 use Rattle.std.specs.Prelude.{ℕ, ◌%◌, ◌==◌, Bool, if◌then◌else◌, List, [], ◌∷◌, Option, Some, None}
-use Rattle.cdr_codec.specs.declared.orders.Order.{Order}
 use Rattle.cdr_codec.specs.declared.orders.Order.TheVariants.{Big}
 use Rattle.giop_messages.specs.declared.faults.Why.{Why}
 use Rattle.giop_messages.specs.declared.faults.Why.TheVariants as causes
+use Rattle.giop_messages.specs.declared.forms.Form.{Form}
 use Rattle.giop_messages.specs.declared.messages.Message.{Message}
 use Rattle.giop_messages.specs.declared.messages.Message.TheVariants.{MessageError}
+use Rattle.giop_messages.specs.Messages.{giop}
 use Rattle.giop_messages.specs.Writing.{written_message}
 use Rattle.giop_stream.specs.declared.sessions.StreamEnd.{StreamEnd}
 use Rattle.giop_stream.specs.declared.sessions.StreamEnd.TheVariants.{Closed, Malformed, TooLarge}
@@ -35,14 +36,14 @@ pub record Port (P : Type 0) : Type 0 where
 -- ---- what is written
 
 -- a request asks for a reply by bit 0 of its flags
-abbrev pub reply_of : ℕ → ℕ → Order → PortAnswer → Option (List ℕ)
-reply_of id flags order answer = if flags % 2 == 1 then Some (written_message (reply_to id order answer) order) else None
+abbrev pub reply_of : ℕ → ℕ → Form → PortAnswer → Option (List ℕ)
+reply_of id flags form answer = if flags % 2 == 1 then Some (written_message (reply_to id form answer) form) else None
 
-abbrev pub locate_reply_of : ℕ → Order → Bool → List ℕ
-locate_reply_of id order here = written_message (locate_reply_to id here) order
+abbrev pub locate_reply_of : ℕ → Form → Bool → List ℕ
+locate_reply_of id form here = written_message (locate_reply_to id here) form
 
 abbrev pub message_error : List ℕ
-message_error = written_message MessageError Big
+message_error = written_message MessageError (giop 2 Big)
 
 -- a malformed link is answered by a MessageError, but for one that is cut off
 abbrev pub malformed_error : Why → Option (List ℕ)
@@ -74,14 +75,14 @@ written_by write p (Some bytes) = write p bytes
 abbrev pub writes : {P : Type 0} → Port P → P → Option (List ℕ) → P
 writes port p bytes = written_by port.write p bytes
 
-abbrev pub called : {P : Type 0} → Port P → P → Order → Calling → P
-called port p order (Ask id flags key asked) = port.ask p key asked (reply_of id flags order)
-called port p order (Locate id key) = port.write p (locate_reply_of id order (port.here p key))
-called port p order Nothing = p
+abbrev pub called : {P : Type 0} → Port P → P → Form → Calling → P
+called port p form (Ask id flags key asked) = port.ask p key asked (reply_of id flags form)
+called port p form (Locate id key) = port.write p (locate_reply_of id form (port.here p key))
+called port p form Nothing = p
 
--- a message in this byte order comes to the host
-abbrev pub step : {P : Type 0} → Port P → P → Message → Order → P
-step port p message order = called port p order (calling_of message)
+-- a message in this form comes to the host
+abbrev pub step : {P : Type 0} → Port P → P → Message → Form → P
+step port p message form = called port p form (calling_of message)
 
 -- the messages of a session, one after another
 unfoldable pub served : {P : Type 0} → Port P → P → List Received → P

@@ -1,5 +1,5 @@
 //! What a host writes on a link.
-ghost use Rattle.std.specs.Prelude.{◌≡◌, IfOk};
+ghost use Rattle.std.specs.Prelude.{◌≡◌, ◌<◌, IfOk};
 ghost use Rattle.cdr_codec.specs.declared.orders.Order.{Order as ByteOrder};
 ghost use Rattle.host_server.specs.Replies.{CanReply};
 ghost use Rattle.ft_base.specs.Machine.{IsGivenAs};
@@ -7,29 +7,29 @@ ghost use Rattle.sys_faults.specs.Bodies.{OnUnknown};
 ghost use Rattle.link_session.specs.Answers.{gives_of};
 ghost use Rattle.link_session.specs.Ports.{end_error, malformed_error, reply_of};
 
-use cdr_codec::Order;
 use ft_base::{Bytes, NoMemory, Outcome, Par, Signature};
-use giop_messages::Why;
+use giop_messages::{Form, Why};
 use giop_stream::StreamEnd;
 use host_server::{PortAnswer, message_error_bytes, reply_bytes};
 use std::alloc::Global;
 use sys_faults::SysFault;
 
-/// The bytes of the Reply to the request with this id, in its byte order, where its flags ask for one.
+/// The bytes of the Reply to the request with this id, in its form, where its flags ask for one.
 pub fn reply(
     alloc: Global,
     id: u32,
     flags: u8,
-    order: Order,
+    form: Form,
     answer: &PortAnswer,
 ) -> Result<Option<Bytes>, NoMemory>
-    requires { CanReply order answer.now }
-    ensures { IfOk result (λ bytes. bytes ≡ reply_of id flags order answer.now) }
+    requires known { form.minor < 3 }
+    requires can { CanReply form.order answer.now }
+    ensures { IfOk result (λ bytes. bytes ≡ reply_of id flags form answer.now) }
 {
     if flags % 2 != 1 {
         return Ok(None);
     }
-    let bytes = reply_bytes(alloc, id, order, answer)?;
+    let bytes = reply_bytes(alloc, id, form, answer)?;
     Ok(Some(bytes))
 }
 

@@ -1,12 +1,11 @@
 //! What a message calls for.
-ghost use Rattle.std.specs.Prelude.{◌≡◌, IfOk};
+ghost use Rattle.std.specs.Prelude.{◌≡◌, ◌<◌, IfOk};
 ghost use Rattle.giop_stream.specs.Spelled.{IsSpelled};
 ghost use Rattle.link_session.specs.Calls.{calling_of, request_of, IsShortCalling, IsShortMessage, IsShortRequest};
 
 use crate::asking::asked_of;
-use cdr_codec::Order;
 use ft_base::{Bytes, NoMemory};
-use giop_messages::{Message, RequestMsg, messages_are_within};
+use giop_messages::{Form, Message, RequestMsg, messages_are_within};
 use group_model::Asked;
 use std::alloc::Global;
 
@@ -65,13 +64,14 @@ fn message_calling(alloc: Global, message: Message) -> Result<Calling, NoMemory>
     }
 }
 
-/// What a message that a session gave calls for.
-pub fn calling_of(alloc: Global, received: (Message, Order)) -> Result<Calling, NoMemory>
+/// What a message that a session gave calls for; and that there is such a minor version.
+pub fn calling_of(alloc: Global, received: (Message, Form)) -> Result<Calling, NoMemory>
     requires { IsSpelled received }
     ensures is { IfOk result (λ calling. calling ≡ calling_of received.0) }
     ensures short { IfOk result IsShortCalling }
+    ensures known { received.1.minor < 3 }
 {
     messages_are_within();
-    let (message, _order) = received;
+    let (message, _form) = received;
     message_calling(alloc, message)
 }

@@ -1,14 +1,13 @@
 //! What the requests on a link come to, whatever it is.
-ghost use Rattle.std.specs.Prelude.{IfOk};
+ghost use Rattle.std.specs.Prelude.{IfOk, ◌<◌};
 ghost use Rattle.giop_stream.specs.Spelled.{IsSpelled};
 ghost use Rattle.link_session.specs.Calls.{IsShortCalling, calling_of};
 ghost use Rattle.link_session.specs.Stepping.{IsCalled};
 
 use crate::answering::reply;
 use crate::calls::{Calling, calling_of};
-use cdr_codec::Order;
 use ft_base::{Bytes, HostNo, NoMemory};
-use giop_messages::Message;
+use giop_messages::{Form, Message};
 use group_model::Asked;
 use host_server::{PortAnswer, locate_reply_bytes};
 use std::alloc::Global;
@@ -51,11 +50,12 @@ fn called<G: GroupPort>(
     port: &G,
     pass: &mut G::Pass,
     host: HostNo,
-    order: Order,
+    form: Form,
     calling: Calling,
 ) -> Result<Option<Bytes>, NoMemory>
-    requires { IsShortCalling calling }
-    ensures { IfOk result (IsCalled (G.asks port.now host.0) (G.finds port.now host.0) order calling pass.old pass.new) }
+    requires known { form.minor < 3 }
+    requires short { IsShortCalling calling }
+    ensures { IfOk result (IsCalled (G.asks port.now host.0) (G.finds port.now host.0) form calling pass.old pass.new) }
 {
     match calling {
         Calling::Ask {
@@ -65,11 +65,11 @@ fn called<G: GroupPort>(
             asked,
         } => {
             let answer = port.ask(pass, host, &key, asked)?;
-            reply(alloc, id, flags, order, &answer)
+            reply(alloc, id, flags, form, &answer)
         }
         Calling::Locate { id, key } => {
             let here = port.here(pass, host, &key);
-            let bytes = locate_reply_bytes(alloc, id, order, here)?;
+            let bytes = locate_reply_bytes(alloc, id, form, here)?;
             Ok(Some(bytes))
         }
         Calling::Nothing => Ok(None),
@@ -82,12 +82,12 @@ pub fn step<G: GroupPort>(
     port: &G,
     pass: &mut G::Pass,
     host: HostNo,
-    received: (Message, Order),
+    received: (Message, Form),
 ) -> Result<Option<Bytes>, NoMemory>
     requires { IsSpelled received }
     ensures { IfOk result (IsCalled (G.asks port.now host.0) (G.finds port.now host.0) received.1 (calling_of received.0) pass.old pass.new) }
 {
-    let order = received.1;
+    let form = received.1;
     let calling = calling_of(alloc, received)?;
-    called(alloc, port, pass, host, order, calling)
+    called(alloc, port, pass, host, form, calling)
 }

@@ -4,9 +4,8 @@ ghost use Rattle.link_session.specs.Ports.{ended, linked, step as stepped, write
 ghost use Rattle.link_session.specs.Samples.{lonely};
 
 use crate::{GroupPort, end_bytes, step};
-use cdr_codec::Order;
 use ft_base::{Bytes, HostNo, NoMemory};
-use giop_messages::Message;
+use giop_messages::{Form, Message};
 use giop_stream::{Session, SessionStep, StreamEnd};
 use group_model::Asked;
 use host_server::PortAnswer;
@@ -82,7 +81,7 @@ impl GroupPort for Lonely {
 }
 
 #[tactic(auto, using(crate::specs::Stepping::is_step))]
-fn take(received: (Message, Order), written: &mut Written, alloc: Global) -> Result<(), NoMemory>
+fn take(received: (Message, Form), written: &mut Written, alloc: Global) -> Result<(), NoMemory>
     requires { IsSpelled received }
     ensures { OnOk result (written.new ≡ stepped lonely written.old received.0 received.1) }
 {

@@ -1,4 +1,4 @@
--- Short messages can be written: with its header none is over 1 MiB.
+-- Short messages of GIOP 1.2 can be written: with its header none is over 1 MiB.
 use Rattle.std.proofs.Common.{◌≡◌, ◌≤◌, ◌<◌, ◌^◌, ℕ, ◌+◌, ◌%◌, List, [], ◌∷◌, ◌++◌, length, replicate, refl, ap, length-append, arith, lit≤, lit<}
 use Rattle.std.proofs.lemmas.List.{length-replicate}
 use Rattle.std.proofs.lemmas.List.Elements.{All-cons, All-nil}
@@ -19,11 +19,11 @@ use Rattle.giop_messages.specs.declared.messages.ReplyMsg.{ReplyMsg}
 use Rattle.giop_messages.specs.Heads.{header}
 use Rattle.giop_messages.specs.Addresses.{address}
 use Rattle.giop_messages.specs.Fields.{request_id, contexts, request_head, reply_head}
-use Rattle.giop_messages.specs.Messages.{kind_in, head_of_request, head_of_reply}
+use Rattle.giop_messages.specs.Messages.{giop, kind_in, head_of_request, head_of_reply}
 use Rattle.giop_messages.specs.Writing.{padded_body, whole_head, written_message, written_payload, AreContexts, Writable}
 use Rattle.message_rows.specs.Short.{AreFew, IsPart, IsShortRequest, IsShortReply}
 
-headed : (order : Order) (kind : Kind) (size : ℕ) → length (header.written Big 0 (whole_head order kind size)) ≡ HEAD_LENGTH
+headed : (order : Order) (kind : Kind) (size : ℕ) → length (header.written Big 0 (whole_head (giop 2 order) kind size)) ≡ HEAD_LENGTH
 headed Big kind size = refl
 headed Little kind size = refl
 
@@ -67,15 +67,15 @@ contexts_bound order place (c ∷ []) h =
     omega (arith, length-append count (first ++ []), length-append first [], number_bound order place 1, context_bound order at c, h)
 contexts_bound order place (c ∷ d ∷ more) h = absurd h
 
-body_bound : (place : ℕ) (body : List ℕ) → length (padded_body place body) ≤ length body + 7
+body_bound : (place : ℕ) (body : List ℕ) → length (padded_body (padding place 8) body) ≤ length body + 7
 body_bound place [] = lit≤ tt
 body_bound place (b ∷ bs) = omega (arith, length-append (replicate (padding place 8) 0) (b ∷ bs), length-replicate {A = ℕ} (padding place 8) 0)
 
 -- with its header
-sized : (message : Message) (order : Order) → length (written_payload order message) + HEAD_LENGTH ≤ MESSAGE_LIMIT → length (written_message message order) ≤ MESSAGE_LIMIT
+sized : (message : Message) (order : Order) → length (written_payload (giop 2 order) message) + HEAD_LENGTH ≤ MESSAGE_LIMIT → length (written_message message (giop 2 order)) ≤ MESSAGE_LIMIT
 sized message order h =
-    let payload = written_payload order message in
-    let front = header.written Big 0 (whole_head order (kind_in message) (length payload)) in
+    let payload = written_payload (giop 2 order) message in
+    let front = header.written Big 0 (whole_head (giop 2 order) (kind_in message) (length payload)) in
     omega (arith, length-append front payload, headed order (kind_in message) (length payload), h)
 
 abbrev IsCounted : Context → Type 0
@@ -108,7 +108,7 @@ abbrev texts : Order → RequestMsg → List ℕ
 texts order r = target order r ++ (operation order r ++ (told order r ++ []))
 
 request_is : (order : Order) (r : RequestMsg)
-    → request_head.written order HEAD_LENGTH (head_of_request r) ≡ request_id.written order HEAD_LENGTH r.id ++ (r.flags % 256 ∷ 0 ∷ 0 ∷ 0 ∷ texts order r)
+    → (request_head 2).written order HEAD_LENGTH (head_of_request r) ≡ request_id.written order HEAD_LENGTH r.id ++ (r.flags % 256 ∷ 0 ∷ 0 ∷ 0 ∷ texts order r)
 request_is Big r = refl
 request_is Little r = refl
 
@@ -128,7 +128,7 @@ texts_bound order r h =
       h.op,
     )
 
-request_bound : (order : Order) (r : RequestMsg) → IsShortRequest order r → length (request_head.written order HEAD_LENGTH (head_of_request r)) ≤ 196658
+request_bound : (order : Order) (r : RequestMsg) → IsShortRequest order r → length ((request_head 2).written order HEAD_LENGTH (head_of_request r)) ≤ 196658
 request_bound order r h =
     let id = request_id.written order HEAD_LENGTH r.id in
     omega (
@@ -139,18 +139,19 @@ request_bound order r h =
       texts_bound order r h,
     )
 
-request_sized : (order : Order) (r : RequestMsg) → IsShortRequest order r → length (written_payload order (messages.Request r)) + HEAD_LENGTH ≤ MESSAGE_LIMIT
+request_sized : (order : Order) (r : RequestMsg) → IsShortRequest order r → length (written_payload (giop 2 order) (messages.Request r)) + HEAD_LENGTH ≤ MESSAGE_LIMIT
 request_sized order r h =
-    let front = request_head.written order HEAD_LENGTH (head_of_request r) in
+    let front = (request_head 2).written order HEAD_LENGTH (head_of_request r) in
     let at = HEAD_LENGTH + length front in
-    omega (arith, length-append front (padded_body at r.body.bytes), request_bound order r h, body_bound at r.body.bytes, h.body.short)
+    omega (arith, length-append front (padded_body (padding at 8) r.body.bytes), request_bound order r h, body_bound at r.body.bytes, h.body.short)
 
-pub request_writable : (r : RequestMsg) (order : Order) → IsShortRequest order r → Writable (messages.Request r) order
+pub request_writable : (r : RequestMsg) (order : Order) → IsShortRequest order r → Writable (messages.Request r) (giop 2 order)
 request_writable r order h = record {
+  possible = refl;
   fields = record {
+    flags = refl;
     key = omega (arith, h.key);
-    no_zero = h.no_zero;
-    op = omega (arith, h.op);
+    op = record { no_zero = h.no_zero; short = omega (arith, h.op) };
     contexts = are_contexts r.contexts h.contexts;
     body = record { ordered = h.body.ordered; aligned = h.body.aligned; short = omega (arith, h.body.short) };
   };
@@ -161,11 +162,11 @@ request_writable r order h = record {
 
 reply_is : (order : Order) (r : ReplyMsg)
     → request_id.written order HEAD_LENGTH r.id ++ (written_number 4 order 16 r.status ++ (contexts.written order 20 r.contexts ++ []))
-    ≡ reply_head.written order HEAD_LENGTH (head_of_reply r)
+    ≡ (reply_head 2).written order HEAD_LENGTH (head_of_reply r)
 reply_is Big r = refl
 reply_is Little r = refl
 
-reply_bound : (order : Order) (r : ReplyMsg) → AreFew r.contexts → length (reply_head.written order HEAD_LENGTH (head_of_reply r)) ≤ 65571
+reply_bound : (order : Order) (r : ReplyMsg) → AreFew r.contexts → length ((reply_head 2).written order HEAD_LENGTH (head_of_reply r)) ≤ 65571
 reply_bound order r h =
     let id = request_id.written order HEAD_LENGTH r.id in
     let status = written_number 4 order 16 r.status in
@@ -181,14 +182,15 @@ reply_bound order r h =
       contexts_bound order 20 r.contexts h,
     )
 
-reply_sized : (order : Order) (r : ReplyMsg) → IsShortReply order r → length (written_payload order (messages.Reply r)) + HEAD_LENGTH ≤ MESSAGE_LIMIT
+reply_sized : (order : Order) (r : ReplyMsg) → IsShortReply order r → length (written_payload (giop 2 order) (messages.Reply r)) + HEAD_LENGTH ≤ MESSAGE_LIMIT
 reply_sized order r h =
-    let front = reply_head.written order HEAD_LENGTH (head_of_reply r) in
+    let front = (reply_head 2).written order HEAD_LENGTH (head_of_reply r) in
     let at = HEAD_LENGTH + length front in
-    omega (arith, length-append front (padded_body at r.body.bytes), reply_bound order r h.contexts, body_bound at r.body.bytes, h.body.short)
+    omega (arith, length-append front (padded_body (padding at 8) r.body.bytes), reply_bound order r h.contexts, body_bound at r.body.bytes, h.body.short)
 
-pub reply_writable : (r : ReplyMsg) (order : Order) → IsShortReply order r → Writable (messages.Reply r) order
+pub reply_writable : (r : ReplyMsg) (order : Order) → IsShortReply order r → Writable (messages.Reply r) (giop 2 order)
 reply_writable r order h = record {
+  possible = refl;
   fields = record {
     status = h.status;
     contexts = are_contexts r.contexts h.contexts;
@@ -199,25 +201,27 @@ reply_writable r order h = record {
 
 -- ---- the other messages
 
-locate_sized : (order : Order) (id : ℕ) (key : List ℕ) → IsPart key → length (written_payload order (messages.LocateRequest id key)) + HEAD_LENGTH ≤ MESSAGE_LIMIT
+locate_sized : (order : Order) (id : ℕ) (key : List ℕ) → IsPart key → length (written_payload (giop 2 order) (messages.LocateRequest id key)) + HEAD_LENGTH ≤ MESSAGE_LIMIT
 locate_sized order id key h =
     let front = request_id.written order HEAD_LENGTH id in
     let at = HEAD_LENGTH + length front in
     omega (arith, length-append front (address.written order at key), number_bound order HEAD_LENGTH id, address_bound order at key, h)
 
-pub locate_writable : (id : ℕ) (key : List ℕ) (order : Order) → IsPart key → Writable (messages.LocateRequest id key) order
+pub locate_writable : (id : ℕ) (key : List ℕ) (order : Order) → IsPart key → Writable (messages.LocateRequest id key) (giop 2 order)
 locate_writable id key order h = record {
+  possible = refl;
   fields = omega (arith, h);
   sized = sized (messages.LocateRequest id key) order (locate_sized order id key h);
 }
 
-fragment_sized : (order : Order) (id : ℕ) (rest : List ℕ) → IsPart rest → length (written_payload order (messages.Fragment id rest)) + HEAD_LENGTH ≤ MESSAGE_LIMIT
+fragment_sized : (order : Order) (id : ℕ) (rest : List ℕ) → IsPart rest → length (written_payload (giop 2 order) (messages.Fragment id rest)) + HEAD_LENGTH ≤ MESSAGE_LIMIT
 fragment_sized order id rest h =
     let front = request_id.written order HEAD_LENGTH id in
     omega (arith, length-append front rest, number_bound order HEAD_LENGTH id, h)
 
-pub fragment_writable : (id : ℕ) (rest : List ℕ) (order : Order) → IsPart rest → Writable (messages.Fragment id rest) order
+pub fragment_writable : (id : ℕ) (rest : List ℕ) (order : Order) → IsPart rest → Writable (messages.Fragment id rest) (giop 2 order)
 fragment_writable id rest order h = record {
+  possible = refl;
   fields = omega (arith, h);
   sized = sized (messages.Fragment id rest) order (fragment_sized order id rest h);
 }

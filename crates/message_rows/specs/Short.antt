@@ -1,4 +1,4 @@
--- Messages that are short enough to be written, whatever they say.
+-- Messages of GIOP 1.2 that are short enough to be written, whatever they say.
 use Rattle.std.specs.Prelude.{◌≡◌, ◌≤◌, ℕ, List, [], ◌∷◌, length, None}
 use Rattle.ft_base.specs.Text.{zero_place}
 use Rattle.cdr_codec.specs.declared.orders.Order.{Order}
@@ -6,7 +6,7 @@ use Rattle.cdr_codec.specs.declared.bodies.Raw.{Raw}
 use Rattle.ft_contexts.specs.declared.lists.Context.{Context}
 use Rattle.giop_messages.specs.declared.messages.RequestMsg.{RequestMsg}
 use Rattle.giop_messages.specs.declared.messages.ReplyMsg.{ReplyMsg}
-use Rattle.giop_messages.specs.Fields.{reply_statuses}
+use Rattle.giop_messages.specs.Fields.{statuses_1_2}
 use Rattle.giop_messages.specs.Writing.{IsAmong}
 
 -- a part of a message
@@ -32,6 +32,6 @@ pub record IsShortRequest (order : Order) (r : RequestMsg) : Type 0 where
   pub body : IsShortBody order r.body
 
 pub record IsShortReply (order : Order) (r : ReplyMsg) : Type 0 where
-  pub status : IsAmong reply_statuses r.status
+  pub status : IsAmong statuses_1_2 r.status
   pub contexts : AreFew r.contexts
   pub body : IsShortBody order r.body

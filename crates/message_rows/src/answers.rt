@@ -5,8 +5,10 @@ ghost use Rattle.sys_faults.specs.Bodies.{OnUnknown};
 ghost use Rattle.iogr_reference.specs.Formats.{IsWritable};
 ghost use Rattle.host_server.specs.Replies.{CanReply, IsResult, IsShortId};
 
+use crate::forms::form_of;
 use cdr_codec::{CdrWriter, Order, Raw, canonical};
 use ft_base::{Bytes, GroupId, Key, Outcome, Par, Request, Retention, Tick, Version};
+use giop_messages::Form;
 use host_server::{PART_LIMIT, PortAnswer, locate_reply_bytes, message_error_bytes, reply_bytes};
 use iogr_reference::{Ior, Profile, Profiles, write_ior};
 use message_sizes::{fault_size, forward_size, outcome_size, request_size};
@@ -19,7 +21,7 @@ use sys_faults::{Completed, SysFault, SysKind, read_fault};
 const VALUE_LIMIT: usize = 1000;
 
 // The canonical form of a value, and its type.
-fn form_of(alloc: Global, word: &str) -> Result<(Bytes, Par), RowFault>
+fn canonical_of(alloc: Global, word: &str) -> Result<(Bytes, Par), RowFault>
     ensures { IfOk result (λ x. IsResult (Some x.1) x.0) }
 {
     let value = value_of(alloc, word)?;
@@ -97,7 +99,7 @@ fn answer_of(alloc: Global, order: Order, words: &[&str]) -> Result<PortAnswer, 
     match *words {
         ["no-group"] => Ok(PortAnswer::NoGroup),
         ["value", word] => {
-            let (form, par) = form_of(alloc, word)?;
+            let (form, par) = canonical_of(alloc, word)?;
             Ok(PortAnswer::Done {
                 outcome: Outcome::Value(form),
                 gives: Some(par),
@@ -117,15 +119,15 @@ fn answer_of(alloc: Global, order: Order, words: &[&str]) -> Result<PortAnswer, 
     }
 }
 
-/// `reply ORDER ID ANSWER`: the bytes of the Reply with an answer. An answer is `value TYPE:VALUE`, `user NAME`,
+/// `reply FORM ID ANSWER`: the bytes of the Reply with an answer. An answer is `value TYPE:VALUE`, `user NAME`,
 /// `system NAME MINOR`, `no-group`, `forward TYPE PROFILE`, `forward nil` or `forward-perm nil`.
 pub fn reply(alloc: Global, words: &[&str], out: &mut String) -> Result<(), RowFault> {
-    let [order, id, answer @ ..] = words else {
+    let [form, id, answer @ ..] = words else {
         return Err(RowFault::NoRow);
     };
-    let order = order_of(*order)?;
-    let answer = answer_of(alloc, order, answer)?;
-    let bytes = reply_bytes(alloc, u32::try_from(number(*id)?)?, order, &answer)?;
+    let form = form_of(*form)?;
+    let answer = answer_of(alloc, form.order, answer)?;
+    let bytes = reply_bytes(alloc, u32::try_from(number(*id)?)?, form, &answer)?;
     Ok(put_hex(bytes.bytes(), out)?)
 }
 
@@ -140,11 +142,15 @@ fn size_of(alloc: Global, answer: &PortAnswer) -> Result<u128, RowFault>
     }
 }
 
-/// `size ANSWER`: the bytes of the Reply with an answer, counted, and of the same Reply written.
+/// `size ANSWER`: the bytes of the Reply of GIOP 1.2 with an answer, counted, and of the same Reply written.
 pub fn size(alloc: Global, words: &[&str], out: &mut String) -> Result<(), RowFault> {
     let answer = answer_of(alloc, Order::Big, words)?;
     let size = size_of(alloc, &answer)?;
-    let bytes = reply_bytes(alloc, 7, Order::Big, &answer)?;
+    let form = Form {
+        minor: 2,
+        order: Order::Big,
+    };
+    let bytes = reply_bytes(alloc, 7, form, &answer)?;
     Ok(write!(out, "counted {size}, written {}", bytes.bytes().len())?)
 }
 
@@ -200,9 +206,9 @@ pub fn request_bytes(alloc: Global, words: &[&str], out: &mut String) -> Result<
     Ok(write!(out, "counted {}", request_size(&attempt))?)
 }
 
-/// `locate-reply ORDER ID here` or `locate-reply ORDER ID unknown`: the bytes of a LocateReply.
+/// `locate-reply FORM ID here` or `locate-reply FORM ID unknown`: the bytes of a LocateReply.
 pub fn locate_reply(alloc: Global, words: &[&str], out: &mut String) -> Result<(), RowFault> {
-    let [order, id, place] = words else {
+    let [form, id, place] = words else {
         return Err(RowFault::NoRow);
     };
     let here = match *place {
@@ -211,7 +217,7 @@ pub fn locate_reply(alloc: Global, words: &[&str], out: &mut String) -> Result<(
         _ => return Err(RowFault::NoRow),
     };
     let id = u32::try_from(number(*id)?)?;
-    let bytes = locate_reply_bytes(alloc, id, order_of(*order)?, here)?;
+    let bytes = locate_reply_bytes(alloc, id, form_of(*form)?, here)?;
     Ok(put_hex(bytes.bytes(), out)?)
 }
 

@@ -3,6 +3,7 @@
 #![tactic(auto)]
 
 mod answers;
+mod forms;
 mod messages;
 mod streams;
 

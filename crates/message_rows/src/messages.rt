@@ -1,14 +1,16 @@
 //! Messages of GIOP.
 ghost use Rattle.std.specs.Prelude.{◌≡◌, ◌≤◌, length, IsTrue};
 ghost use Rattle.ft_base.specs.Text.{zero_place};
-ghost use Rattle.giop_messages.specs.Fields.{reply_statuses, locate_statuses};
+ghost use Rattle.giop_messages.specs.Fields.{locate_statuses, statuses_1_2};
+ghost use Rattle.giop_messages.specs.Messages.{giop};
 ghost use Rattle.giop_messages.specs.Writing.{IsAmong, Writable};
 ghost use Rattle.message_rows.specs.Short.{AreFew, IsShortBody, IsShortRequest, IsShortReply};
 
+use crate::forms::put_form;
 use cdr_codec::{Order, Raw};
 use ft_contexts::{Context, Contexts};
-use giop_messages::{Message, ReplyMsg, RequestMsg, read_message, write_message};
-use row_words::{RowFault, bytes_of, order_word, put_bytes, put_hex};
+use giop_messages::{Form, Message, ReplyMsg, RequestMsg, read_message, write_message};
+use row_words::{RowFault, bytes_of, put_bytes, put_hex};
 use std::alloc::{AllocError, Global};
 
 fn put_contexts(contexts: &Contexts, out: &mut String) -> Result<(), AllocError> {
@@ -36,9 +38,10 @@ fn put_reply(reply: &ReplyMsg, out: &mut String) -> Result<(), AllocError> {
     put_bytes(reply.body.bytes.bytes(), out)
 }
 
-/// Writes what a message says, behind its byte order.
-pub fn put_message(message: &Message, order: Order, out: &mut String) -> Result<(), AllocError> {
-    write!(out, "{} ", order_word(order))?;
+/// Writes what a message says, behind its form.
+pub fn put_message(message: &Message, form: Form, out: &mut String) -> Result<(), AllocError> {
+    put_form(form, out)?;
+    out.push(' ')?;
     match message {
         Message::Request(request) => put_request(request, out),
         Message::Reply(reply) => put_reply(reply, out),
@@ -99,7 +102,7 @@ fn is_short_request(request: &RequestMsg, order: Order) -> bool
 }
 
 fn is_status(status: u32) -> bool
-    ensures { IsTrue result → IsAmong reply_statuses status }
+    ensures { IsTrue result → IsAmong statuses_1_2 status }
 {
     match status {
         0 => true,
@@ -130,10 +133,10 @@ fn is_short_reply(reply: &ReplyMsg, order: Order) -> bool
         && is_short_body(&reply.body, order)
 }
 
-// Whether a message is short enough to be written again.
+// Whether a message of GIOP 1.2 is short enough to be written again.
 #[tactic(auto, using(crate::proofs::ShortLaws::request_writable, crate::proofs::ShortLaws::reply_writable, crate::proofs::ShortLaws::locate_writable, crate::proofs::ShortLaws::fragment_writable))]
 fn is_writable(message: &Message, order: Order) -> bool
-    ensures { IsTrue result → Writable message.now order }
+    ensures { IsTrue result → Writable message.now (giop 2 order) }
 {
     match message {
         Message::Request(request) => is_short_request(request, order),
@@ -147,6 +150,7 @@ fn is_writable(message: &Message, order: Order) -> bool
     }
 }
 
+// Writes a message of GIOP 1.2 again.
 fn put_again(
     alloc: Global,
     message: &Message,
@@ -156,21 +160,24 @@ fn put_again(
     if !is_writable(message, order) {
         return Err(RowFault::NoRow);
     }
-    let bytes = write_message(alloc, message, order)?;
+    let bytes = write_message(alloc, message, Form { minor: 2, order })?;
     out.push_str("\n    again ")?;
     Ok(put_hex(bytes.bytes(), out)?)
 }
 
-/// `message BYTES`: the message at the beginning of these bytes, and its bytes once it is written again.
+/// `message BYTES`: the message at the beginning of these bytes, and of GIOP 1.2 its bytes once it is written again.
 pub fn message(alloc: Global, words: &[&str], out: &mut String) -> Result<(), RowFault> {
     let [bytes] = words else {
         return Err(RowFault::NoRow);
     };
     let bytes = bytes_of(alloc, *bytes)?;
     match read_message(alloc, bytes.as_slice()) {
-        Ok((message, order)) => {
-            put_message(&message, order, out)?;
-            put_again(alloc, &message, order, out)
+        Ok((message, form)) => {
+            put_message(&message, form, out)?;
+            if form.minor == 2 {
+                put_again(alloc, &message, form.order, out)?;
+            }
+            Ok(())
         }
         Err(fault) => Ok(write!(out, "refused {fault}")?),
     }

@@ -1,9 +1,9 @@
 -- How long a Reply is.
 use Rattle.std.specs.Prelude.{option_map}
 use Rattle.std.proofs.Common.{◌≡◌, ℕ, Bool, ◌+◌, List, [], ◌∷◌, ◌++◌, length, ◌↔◌, Option, Some, None, refl, ap, sym, ◌∙◌, length-append, arith}
-use Rattle.ft_base.specs.Canonical.{one_of, AreValuesAt, AreSpelledAs}
 use Rattle.ft_base.specs.declared.requests.Outcome.{Outcome}
 use Rattle.ft_base.specs.declared.requests.Par.{Par}
+use Rattle.ft_base.specs.Canonical.{one_of, AreValuesAt, AreSpelledAs, padding}
 use Rattle.cdr_codec.specs.declared.orders.Order.TheVariants.{Big}
 use Rattle.cdr_codec.specs.Formats.{written_number}
 use Rattle.cdr_codec.specs.Values.{text}
@@ -23,6 +23,7 @@ use Rattle.giop_messages.specs.declared.heads.TheConstants.{HEAD_LENGTH}
 use Rattle.giop_messages.specs.declared.heads.Kind.TheVariants as heads
 use Rattle.giop_messages.specs.Heads.{header}
 use Rattle.giop_messages.specs.Fields.{reply_head}
+use Rattle.giop_messages.specs.Messages.{giop}
 use Rattle.giop_messages.specs.Writing.{padded_body, whole_head}
 use Rattle.host_server.specs.declared.answers.PortAnswer.{PortAnswer}
 use Rattle.host_server.specs.declared.answers.PortAnswer.TheVariants.{Forward, Done, System}
@@ -33,30 +34,30 @@ use Rattle.message_sizes.specs.Sizes.{reply_size, answer_size, RepliesAreAsLong}
 use Rattle.message_sizes.proofs.Lengths.{number_ends, text_ends}
 
 -- a body begins at place 24, a multiple of 8
-unpadded : (body : List ℕ) → length (padded_body 24 body) ≡ length body
+unpadded : (body : List ℕ) → length (padded_body (padding 24 8) body) ≡ length body
 unpadded [] = refl
 unpadded (b ∷ bs) = refl
 
-header_length : (size : ℕ) → length (header.written Big 0 (whole_head Big heads.Reply size)) ≡ HEAD_LENGTH
+header_length : (size : ℕ) → length (header.written Big 0 (whole_head (giop 2 Big) heads.Reply size)) ≡ HEAD_LENGTH
 header_length size = refl
 
 -- the fields of a Reply without contexts
-fields_length : (id status : ℕ) → length (reply_head.written Big HEAD_LENGTH (record { id = id; status = status; contexts = [] })) ≡ 12
+fields_length : (id status : ℕ) → length ((reply_head 2).written Big HEAD_LENGTH (record { id = id; status = status; contexts = [] })) ≡ 12
 fields_length id status = refl
 
 reply_length : (id : ℕ) (answer : PortAnswer) → reply_size id answer ≡ 24 + length (body_of Big answer)
 unfolding reply_size
 reply_length id answer =
-    let front = reply_head.written Big HEAD_LENGTH (record { id = id; status = replies.status_of answer; contexts = [] }) in
-    let body = padded_body (HEAD_LENGTH + length front) (body_of Big answer) in
+    let front = (reply_head 2).written Big HEAD_LENGTH (record { id = id; status = replies.status_of 2 answer; contexts = [] }) in
+    let body = padded_body (padding (HEAD_LENGTH + length front) 8) (body_of Big answer) in
     let size = length (front ++ body) in
     let body_length : length body ≡ length (body_of Big answer) = unpadded (body_of Big answer) in
     omega (
       arith,
-      length-append (header.written Big 0 (whole_head Big heads.Reply size)) (front ++ body),
+      length-append (header.written Big 0 (whole_head (giop 2 Big) heads.Reply size)) (front ++ body),
       header_length size,
       length-append front body,
-      fields_length id (replies.status_of answer),
+      fields_length id (replies.status_of 2 answer),
       body_length,
     )
 

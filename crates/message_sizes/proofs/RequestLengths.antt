@@ -2,10 +2,10 @@
 use Rattle.std.proofs.Common.{◌≡◌, ℕ, ◌+◌, List, [], ◌∷◌, ◌++◌, length, replicate, refl, ap, sym, ◌∙◌, append-nil, length-append, arith}
 use Rattle.std.specs.Int.{w32, cast_unsigned}
 use Rattle.std.proofs.lemmas.List.{length-replicate}
-use Rattle.ft_base.specs.Canonical.{padding}
+use Rattle.std.specs.Prelude.{Option}
 use Rattle.ft_base.specs.declared.numbers.Version.{Version}
 use Rattle.ft_base.specs.declared.requests.Key.{Key}
-use Rattle.std.specs.Prelude.{Option}
+use Rattle.ft_base.specs.Canonical.{padding}
 use Rattle.cdr_codec.specs.declared.orders.Order.TheVariants.{Big}
 use Rattle.cdr_codec.specs.Reading.{start}
 use Rattle.cdr_codec.specs.Formats.{Writing, written_number, written_each}
@@ -24,6 +24,7 @@ use Rattle.giop_messages.specs.declared.requests.RequestHead.{RequestHead}
 use Rattle.giop_messages.specs.Heads.{header}
 use Rattle.giop_messages.specs.Addresses.{address}
 use Rattle.giop_messages.specs.Fields.{request_id, contexts, request_head}
+use Rattle.giop_messages.specs.Messages.{giop}
 use Rattle.giop_messages.specs.Writing.{padded_body, written_body, whole_head}
 use Rattle.script_clients.specs.declared.answers.Attempt.{Attempt}
 use Rattle.message_sizes.specs.Places.{behind, number_end, text_end}
@@ -106,14 +107,14 @@ contexts_end place version key =
 
 -- ---- the body
 
-pub no_body_end : (place : ℕ) (body : List ℕ) → body ≡ [] → place ≡ behind written_body place body
-no_body_end place body e = omega (arith, ap (λ (l : List ℕ). length (padded_body place l)) e)
+pub no_body_end : (place : ℕ) (body : List ℕ) → body ≡ [] → place ≡ behind (written_body 2) place body
+no_body_end place body e = omega (arith, ap (λ (l : List ℕ). length (padded_body (padding place 8) l)) e)
 
-padded : (place : ℕ) (body : List ℕ) → (body ≡ [] → ⊥) → padded_body place body ≡ replicate (padding place 8) 0 ++ body
+padded : (place : ℕ) (body : List ℕ) → (body ≡ [] → ⊥) → padded_body (padding place 8) body ≡ replicate (padding place 8) 0 ++ body
 padded place [] some = absurd (some refl)
 padded place (b ∷ bs) some = refl
 
-pub body_end : (place : ℕ) (body : List ℕ) → (body ≡ [] → ⊥) → start 8 place + length body ≡ behind written_body place body
+pub body_end : (place : ℕ) (body : List ℕ) → (body ≡ [] → ⊥) → start 8 place + length body ≡ behind (written_body 2) place body
 body_end place body some =
     omega (
       arith,
@@ -136,23 +137,23 @@ abbrev told_by : Attempt → List ℕ
 told_by a =
     let op = text.written Big 40 a.request.op in op ++ (contexts.written Big (40 + length op) (written_contexts a.version a.request.key) ++ [])
 
-fields_are : (a : Attempt) → request_head.written Big HEAD_LENGTH (head_of a) ≡ numbers a ++ told_by a
+fields_are : (a : Attempt) → (request_head 2).written Big HEAD_LENGTH (head_of a) ≡ numbers a ++ told_by a
 fields_are a = refl
 
 numbers_length : (a : Attempt) → length (numbers a) ≡ 28
 numbers_length a = refl
 
-header_length : (size : ℕ) → length (header.written Big 0 (whole_head Big kinds.Request size)) ≡ HEAD_LENGTH
+header_length : (size : ℕ) → length (header.written Big 0 (whole_head (giop 2 Big) kinds.Request size)) ≡ HEAD_LENGTH
 header_length size = refl
 
 fields_end : (a : Attempt)
-    → HEAD_LENGTH + length (request_head.written Big HEAD_LENGTH (head_of a))
+    → HEAD_LENGTH + length ((request_head 2).written Big HEAD_LENGTH (head_of a))
     ≡ behind contexts.written (text_end 40 (length a.request.op)) (written_contexts a.version a.request.key)
 fields_end a =
     let told = written_contexts a.version a.request.key in
     let op = text.written Big 40 a.request.op in
     let listed = contexts.written Big (40 + length op) told in
-    let all : HEAD_LENGTH + length (request_head.written Big HEAD_LENGTH (head_of a)) ≡ behind contexts.written (40 + length op) told =
+    let all : HEAD_LENGTH + length ((request_head 2).written Big HEAD_LENGTH (head_of a)) ≡ behind contexts.written (40 + length op) told =
     omega (
       arith,
       ap (λ (l : List ℕ). length l) (fields_are a),
@@ -164,18 +165,18 @@ fields_end a =
     all ∙ ap (λ (n : ℕ). behind contexts.written n told) (text_ends 40 a.request.op)
 
 pub request_ends : (a : Attempt)
-    → behind written_body (behind contexts.written (text_end 40 (length a.request.op)) (written_contexts a.version a.request.key)) a.request.args ≡ request_size a
+    → behind (written_body 2) (behind contexts.written (text_end 40 (length a.request.op)) (written_contexts a.version a.request.key)) a.request.args ≡ request_size a
 unfolding request_size
 request_ends a =
-    let front = request_head.written Big HEAD_LENGTH (head_of a) in
+    let front = (request_head 2).written Big HEAD_LENGTH (head_of a) in
     let at = HEAD_LENGTH + length front in
-    let body = padded_body at a.request.args in
+    let body = padded_body (padding at 8) a.request.args in
     let size = length (front ++ body) in
-    let whole : behind written_body at a.request.args ≡ length (header.written Big 0 (whole_head Big kinds.Request size) ++ (front ++ body)) =
+    let whole : behind (written_body 2) at a.request.args ≡ length (header.written Big 0 (whole_head (giop 2 Big) kinds.Request size) ++ (front ++ body)) =
     omega (
       arith,
-      length-append (header.written Big 0 (whole_head Big kinds.Request size)) (front ++ body),
+      length-append (header.written Big 0 (whole_head (giop 2 Big) kinds.Request size)) (front ++ body),
       header_length size,
       length-append front body,
     ) in
-    ap (λ (n : ℕ). behind written_body n a.request.args) (sym (fields_end a)) ∙ whole
+    ap (λ (n : ℕ). behind (written_body 2) n a.request.args) (sym (fields_end a)) ∙ whole

@@ -5,6 +5,7 @@ use Rattle.iogr_reference.specs.Choices.{object_key}
 use Rattle.ft_contexts.specs.Writing.{written_contexts}
 use Rattle.giop_messages.specs.declared.messages.Message.{Message}
 use Rattle.giop_messages.specs.declared.messages.Message.TheVariants as messages
+use Rattle.giop_messages.specs.Messages.{giop}
 use Rattle.giop_messages.specs.Writing.{written_message}
 use Rattle.script_clients.specs.declared.answers.Attempt.{Attempt}
 use Rattle.host_server.specs.declared.answers.PortAnswer.{PortAnswer}
@@ -22,10 +23,10 @@ request_of attempt = messages.Request (record {
 })
 
 unfoldable pub request_size : Attempt → ℕ
-request_size attempt = length (written_message (request_of attempt) Big)
+request_size attempt = length (written_message (request_of attempt) (giop 2 Big))
 
 unfoldable pub reply_size : ℕ → PortAnswer → ℕ
-reply_size id answer = length (written_message (reply_to id Big answer) Big)
+reply_size id answer = length (written_message (reply_to id (giop 2 Big) answer) (giop 2 Big))
 
 -- of the Reply to a request, whatever the request's id
 unfoldable pub answer_size : PortAnswer → ℕ

@@ -4,7 +4,11 @@
 //!
 //! ```
 //! let size = size_of(alloc, &answer)?;
-//! let bytes = reply_bytes(alloc, 7, Order::Big, &answer)?;
+//! let form = Form {
+//!     minor: 2,
+//!     order: Order::Big,
+//! };
+//! let bytes = reply_bytes(alloc, 7, form, &answer)?;
 //! Ok(write!(out, "counted {size}, written {}", bytes.bytes().len())?)
 //! ```
 #![tactic(auto)]

@@ -82,7 +82,7 @@ fn contexts_end(place: u128, version: Option<Version>, key: &Option<Key>) -> u12
 #[tactic(auto, using(crate::proofs::RequestLengths::body_end, crate::proofs::RequestLengths::no_body_end))]
 fn body_end(place: u128, body: &[u8]) -> u128
     requires low { place < 2 ^ 90 }
-    ensures { result ≡ behind written_body place body.now }
+    ensures { result ≡ behind (written_body 2) place body.now }
 {
     if body.is_empty() {
         return place;

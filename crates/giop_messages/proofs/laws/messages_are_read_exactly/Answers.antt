@@ -6,6 +6,6 @@ pub returns : goal.returns
 returns c =
     let laws = reference_codecs c.references_are_codecs.ensures.each_profile c.references_are_codecs.ensures.references in
     record {
-      exactly = λ bytes message order. (message_found laws bytes message order, message_again laws bytes message order);
+      exactly = λ bytes message form. (message_found laws bytes message form, message_again laws bytes message form);
       once = spelled_once laws;
     }

@@ -5,8 +5,8 @@ use Rattle.cdr_codec.specs.Calls.{Writer, appended}
 use Rattle.giop_messages.specs.Addresses.{address}
 use Rattle.giop_messages.specs.Fields.{reserved, contexts}
 use Rattle.giop_messages.specs.Messages.{head_of_request}
-use Rattle.giop_messages.proofs.WritingSteps.{request_head_written}
-use Rattle.giop_messages.proofs.requests.write_request_head.Goals as goal
+use Rattle.giop_messages.proofs.WritingSteps.{request_1_2_written}
+use Rattle.giop_messages.proofs.requests.write_request_1_2.Goals as goal
 
 pub returns-clause-written : goal.returns-clause-written
 returns-clause-written c =
@@ -21,4 +21,4 @@ returns-clause-written c =
     ∙ ap (λ (w : Writer). appended reserved.written tt (appended reserved.written tt w)) c.in_ok-write_reserved.ensures
     ∙ ap (λ (w : Writer). appended reserved.written tt (appended reserved.written tt (appended reserved.written tt w))) c.in_ok-write_octet.ensures.written
     ∙ ap (λ (w : Writer). appended reserved.written tt (appended reserved.written tt (appended reserved.written tt (appended (number 1).written h.flags w)))) c.in_ok-write_u32.ensures.written)
-    ∙ sym (request_head_written h c.args.writer.now)
+    ∙ sym (request_1_2_written h c.args.writer.now)
