@@ -99,9 +99,9 @@ fn answer_of(alloc: Global, order: Order, words: &[&str]) -> Result<PortAnswer, 
     match *words {
         ["no-group"] => Ok(PortAnswer::NoGroup),
         ["value", word] => {
-            let (form, par) = canonical_of(alloc, word)?;
+            let (value, par) = canonical_of(alloc, word)?;
             Ok(PortAnswer::Done {
-                outcome: Outcome::Value(form),
+                outcome: Outcome::Value(value),
                 gives: Some(par),
             })
         }

@@ -17,6 +17,7 @@ fn answer_row(alloc: Global, verb: &str, words: &[&str], out: &mut String) -> Re
         "stream" => streams::stream(alloc, words, out),
         "cuts" => streams::cuts(alloc, words, out),
         "session" => streams::session(alloc, words, out),
+        "replies" => streams::replies(alloc, words, out),
         "reply" => answers::reply(alloc, words, out),
         "size" => answers::size(alloc, words, out),
         "size-request" => answers::request_bytes(alloc, words, out),

@@ -31,7 +31,8 @@ fn put_request(request: &RequestMsg, out: &mut String) -> Result<(), AllocError>
     put_bytes(request.body.bytes.bytes(), out)
 }
 
-fn put_reply(reply: &ReplyMsg, out: &mut String) -> Result<(), AllocError> {
+/// Writes what a Reply says.
+pub fn put_reply(reply: &ReplyMsg, out: &mut String) -> Result<(), AllocError> {
     write!(out, "Reply {}, status {}", reply.id, reply.status)?;
     put_contexts(&reply.contexts, out)?;
     write!(out, ", body at {} ", reply.body.align)?;

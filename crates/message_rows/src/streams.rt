@@ -1,7 +1,7 @@
 //! Links, whose bytes come in pieces.
 
-use crate::messages::put_message;
-use giop_stream::{Framer, Session, SessionStep, StreamEnd, StreamFault};
+use crate::messages::{put_message, put_reply};
+use giop_stream::{Framer, ReplySession, ReplyStep, Session, SessionStep, StreamEnd, StreamFault};
 use row_words::{RowFault, bytes_of, number, put_separator};
 use std::alloc::Global;
 
@@ -111,5 +111,27 @@ pub fn session(alloc: Global, words: &[&str], out: &mut String) -> Result<(), Ro
     let mut session = Session::new(alloc);
     session.feed(link.as_slice())?;
     let end = serve(&mut session, out)?;
+    put_end(end, out)
+}
+
+fn listen(session: &mut ReplySession, out: &mut String) -> Result<StreamEnd, RowFault> {
+    'replies: loop {
+        match session.next()? {
+            ReplyStep::Reply(reply) => {
+                put_reply(&reply, out)?;
+                out.push_str("; ")?;
+            }
+            ReplyStep::Wait => return Ok(session.at_end()),
+            ReplyStep::End(end) => return Ok(end),
+        }
+    }
+}
+
+/// `replies PART..`: the Replies that a client reads of a link, and how the link ends.
+pub fn replies(alloc: Global, words: &[&str], out: &mut String) -> Result<(), RowFault> {
+    let link = link_of(alloc, words)?;
+    let mut session = ReplySession::new(alloc);
+    session.feed(link.as_slice())?;
+    let end = listen(&mut session, out)?;
     put_end(end, out)
 }
