@@ -1,5 +1,5 @@
 -- What the judgement of criteria says of them.
-use Rattle.std.proofs.Common.{◌≡◌, ℕ, Option, Some, None, refl, sym}
+use Rattle.std.proofs.Common.{◌≡◌, ℕ, Option, Some, None, refl}
 use Rattle.std.specs.Prelude.{Ok, Err}
 use Rattle.ft_base.specs.declared.numbers.GroupId.{GroupId}
 use Rattle.property_manager.specs.declared.faults.PropertyFault.TheVariants as property_faults
