@@ -191,15 +191,20 @@ pulls_absent n events made sub places stands none = go (n.at sub.place sub.numbe
     go None is = stands
     go (Some c) is = reads_there n events made sub.place sub.number places (Some c) None stands is none
 
-pub pulls_no_memory : (n : Notified) (events : List FaultEvent) (made : ℕ) (sub : Sub) (s : Subscriber) (places : List (Option Subscriber))
+pub pulls_no_memory : (n : Notified) (events : List FaultEvent) (made at : ℕ) (sub : Sub) (s : Subscriber) (places : List (Option Subscriber))
     → StandsFor n (record { events = events; made = made; places = places })
     → subscriber_at places sub.place sub.number ≡ Some s
+    → IsNext (matches s.filter) events s.next (Some at)
     → IsPulledBy n sub (n.at sub.place sub.number) (Err faults.NoMemory) (record { events = events; made = made; places = places })
-pulls_no_memory n events made sub s places stands found = go (n.at sub.place sub.number) refl
+pulls_no_memory n events made at sub s places stands found next = go (n.at sub.place sub.number) refl
   where
     go : (w : Option Connection) → n.at sub.place sub.number ≡ w → IsPulledBy n sub w (Err faults.NoMemory) (record { events = events; made = made; places = places })
     go None is = reads_there n events made sub.place sub.number places None (Some s) stands is found
-    go (Some c) is = stands
+    go (Some c) is =
+        let reads = reads_there n events made sub.place sub.number places (Some c) (Some s) stands is found in (
+          subst (λ (es : List FaultEvent). is_some (next_event es c) ≡ true) (sym stands.events) (ap is_some (something_next events c s at reads next)),
+          stands,
+        )
 
 pub pulls_nothing : (n : Notified) (events : List FaultEvent) (made : ℕ) (sub : Sub) (subscriber : Subscriber) (s t : Slab Subscriber)
     → StandsFor n (record { events = events; made = made; places = s.slots })

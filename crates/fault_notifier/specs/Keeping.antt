@@ -1,5 +1,5 @@
 -- What a notifier keeps of the plain one: of each connection the place from which its events are still to be read.
-use Rattle.std.specs.Prelude.{◌≡◌, ℕ, ◌+◌, Bool, true, ◌≤◌, ◌==◌, nat_le, if◌then◌else◌, List, [], ◌∷◌, ◌++◌, length, drop, slice_get, slice_index_or, count_by, is_some, Option, Some, None, Result, Ok, Err}
+use Rattle.std.specs.Prelude.{◌≡◌, ℕ, ◌+◌, Bool, true, ◌≤◌, ◌<◌, ◌==◌, nat_le, if◌then◌else◌, List, [], ◌∷◌, ◌++◌, length, drop, slice_get, slice_index_or, count_by, is_some, Option, Some, None, Result, Ok, Err}
 use Rattle.std.specs.List.{filter}
 use Rattle.fault_notifier.specs.Filters.{Filter, matches}
 use Rattle.fault_notifier.specs.Notifying.{Notified, Connection, next_event, connected, disconnected, pushed, pulled}
@@ -69,7 +69,7 @@ abbrev pub IsConnected : Notified → Filter → Result Sub NotifyFault → Pict
 IsConnected n f (Ok sub) old new = (refusal n ≡ None) × (sub.number ≡ n.made + 1) × StandsFor (connected n sub.place f) new
 IsConnected n f (Err faults.NoSubscriber) old new = ⊥
 IsConnected n f (Err (faults.Full limit)) old new = (refusal n ≡ Some limit) × (new ≡ old)
-IsConnected n f (Err faults.NoMemory) old new = new ≡ old
+IsConnected n f (Err faults.NoMemory) old new = (refusal n ≡ None) × (new ≡ old)
 
 abbrev pub IsDisconnected : Notified → Sub → Result (Unit {0}) NotifyFault → Picture → Picture → Type 0
 IsDisconnected n sub (Ok done) old new = (is_some (n.at sub.place sub.number) ≡ true) × StandsFor (disconnected n sub.place sub.number) new
@@ -78,12 +78,12 @@ IsDisconnected n sub (Err (faults.Full limit)) old new = ⊥
 IsDisconnected n sub (Err faults.NoMemory) old new = ⊥
 
 abbrev pub IsPushed : Notified → FaultEvent → Result (Unit {0}) NotifyFault → Picture → Picture → Type 0
-IsPushed n event (Ok done) old new = StandsFor (pushed n event) new
+IsPushed n event (Ok done) old new = (length n.events < EVENT_LIMIT) × StandsFor (pushed n event) new
 IsPushed n event (Err faults.NoSubscriber) old new = ⊥
 IsPushed n event (Err (faults.Full limit)) old new = (limit ≡ EVENT_LIMIT) × (EVENT_LIMIT ≤ length n.events) × (new ≡ old)
-IsPushed n event (Err faults.NoMemory) old new = new ≡ old
+IsPushed n event (Err faults.NoMemory) old new = (length n.events < EVENT_LIMIT) × (new ≡ old)
 
--- its next event; none where it has read all; where memory is wanted it reads on there later
+-- its next event; none where it has read all; where memory is wanted for an event it reads on there later
 abbrev pub IsPulledBy : Notified → Sub → Option Connection → Result (Option FaultEvent) NotifyFault → Picture → Type 0
 IsPulledBy n sub None (Ok event) new = ⊥
 IsPulledBy n sub None (Err faults.NoSubscriber) new = StandsFor n new
@@ -93,7 +93,7 @@ IsPulledBy n sub (Some c) (Ok None) new = (next_event n.events c ≡ None) × St
 IsPulledBy n sub (Some c) (Ok (Some event)) new = (next_event n.events c ≡ Some event) × StandsFor (pulled n sub.place sub.number c) new
 IsPulledBy n sub (Some c) (Err faults.NoSubscriber) new = ⊥
 IsPulledBy n sub (Some c) (Err (faults.Full limit)) new = ⊥
-IsPulledBy n sub (Some c) (Err faults.NoMemory) new = StandsFor n new
+IsPulledBy n sub (Some c) (Err faults.NoMemory) new = (is_some (next_event n.events c) ≡ true) × StandsFor n new
 
 abbrev pub IsPulled : Notified → Sub → Result (Option FaultEvent) NotifyFault → Picture → Type 0
 IsPulled n sub result new = IsPulledBy n sub (n.at sub.place sub.number) result new

@@ -112,3 +112,17 @@ fn subscribers(rt: HostRuntime) -> Result<(), NoMemory> {
     assert!(rt; reads(&mut notifier, next, b"\x01\x02\x03".as_slice()));
     Ok(())
 }
+
+// The 262,145th event is refused.
+#[test]
+fn a_full_notifier(rt: HostRuntime) -> Result<(), NoMemory> {
+    let alloc = rt.alloc();
+    let mut notifier = Notifier::new(alloc);
+    for _ in 0..262_144 {
+        let pushed = notifier.push(event(alloc, 1, b"IDL:a", 7)?);
+        assert!(rt; pushed.is_ok());
+    }
+    let refused = notifier.push(event(alloc, 1, b"IDL:a", 7)?);
+    assert_eq!(rt; refused, Err(NotifyFault::Full(262_144)));
+    Ok(())
+}

@@ -1,5 +1,8 @@
-ghost use Rattle.std.specs.Prelude.{◌≡◌, ◌≤◌, ◌^◌, ◌+◌, [], None, Some, length, option_copied, is_some, IfOk, OnErr};
+ghost use Rattle.std.specs.Prelude.{◌≡◌, ◌≤◌, ◌^◌, ◌+◌, [], None, Some, Err, length, option_copied, is_some, IfOk, OnErr};
 ghost use Rattle.slab.specs.Slab.{Updates, get, slab_len};
+ghost use Rattle.shipped_servants.specs.Kinds.{kind_with};
+ghost use Rattle.shipped_servants.specs.declared.kinds.Kind.{Kind as OfKind};
+ghost use Rattle.generic_factory.specs.declared.faults.CreateFault.{CreateFault as Fault};
 ghost use Rattle.generic_factory.specs.Creating.{count, criteria_refusal, full, number_refusal, object_at, refusal, unmet, IsChangedAt, IsCreated, IsDeleted, IsMade};
 
 use crate::faults::{CreateFault, ObjectNotFound};
@@ -37,21 +40,19 @@ impl Model for Factory {
 }
 
 /// Why these criteria aren't taken.
-#[tactic(auto, using(crate::proofs::Refusals::taken, crate::proofs::Refusals::invalid, crate::proofs::Refusals::unsupported, crate::proofs::Refusals::no_group))]
-fn criteria_refusal(alloc: Global, criteria: &[Property]) -> Result<Option<CreateFault>, NoMemory>
+#[tactic(auto, using(crate::proofs::Refusals::taken, crate::proofs::Refusals::invalid, crate::proofs::Refusals::unsupported, crate::proofs::Refusals::no_memory, crate::proofs::Refusals::no_group))]
+fn criteria_refusal(criteria: &[Property]) -> Option<CreateFault>
     requires { length criteria.now ≤ 2 ^ 32 }
-    ensures { IfOk result (λ why. why ≡ criteria_refusal criteria.now) }
+    ensures { result ≡ criteria_refusal criteria.now }
 {
-    match judge_criteria(alloc, criteria) {
-        Ok(()) => Ok(None),
-        Err(PropertyFault::InvalidProperty { place }) => {
-            Ok(Some(CreateFault::InvalidCriteria(place)))
-        }
+    match judge_criteria(criteria) {
+        Ok(()) => None,
+        Err(PropertyFault::InvalidProperty { place }) => Some(CreateFault::InvalidCriteria(place)),
         Err(PropertyFault::UnsupportedProperty { place }) => {
-            Ok(Some(CreateFault::UnsupportedProperty(place)))
+            Some(CreateFault::UnsupportedProperty(place))
         }
-        Err(PropertyFault::NoMemory) => Err(NoMemory),
         Err(PropertyFault::ObjectGroupNotFound(_)) => unreachable!(),
+        Err(PropertyFault::NoMemory) => unreachable!(),
     }
 }
 
@@ -117,17 +118,17 @@ impl Factory {
     }
 
     /// Why no object is made of a type that there is.
-    fn refusal(&self, alloc: Global, criteria: &[Property]) -> Result<Option<CreateFault>, NoMemory>
+    fn refusal(&self, criteria: &[Property]) -> Option<CreateFault>
         requires { length criteria.now ≤ 2 ^ 32 }
-        ensures { IfOk result (λ why. why ≡ refusal criteria.now self.now) }
+        ensures { result ≡ refusal criteria.now self.now }
     {
-        if let Some(fault) = criteria_refusal(alloc, criteria)? {
-            return Ok(Some(fault));
+        if let Some(fault) = criteria_refusal(criteria) {
+            return Some(fault);
         }
         if let Some(fault) = number_refusal(criteria) {
-            return Ok(Some(fault));
+            return Some(fault);
         }
-        Ok(self.full())
+        self.full()
     }
 
     fn make(&mut self, alloc: Global, kind: Kind) -> Result<(Shipped, CreationId), NoMemory>
@@ -153,18 +154,18 @@ impl Factory {
         criteria: &[Property],
     ) -> Result<(Shipped, CreationId), CreateFault>
         requires { length criteria.now ≤ 2 ^ 32 }
-        ensures { IsCreated type_id.now criteria.now self.old result self.new }
+        ensures made { IsCreated type_id.now criteria.now self.old result self.new }
+        ensures refused { (kind : OfKind) → kind_with type_id.now ≡ Some kind → (why : Fault) → refusal criteria.now self.old ≡ Some why → result ≡ Err why }
     {
         let Some(kind) = Kind::with_type_id(type_id.bytes()) else {
             return Err(CreateFault::NoFactory);
         };
-        match self.refusal(alloc, criteria) {
+        if let Some(fault) = self.refusal(criteria) {
+            return Err(fault);
+        }
+        match self.make(alloc, kind) {
             Err(NoMemory) => Err(CreateFault::NoMemory),
-            Ok(Some(fault)) => Err(fault),
-            Ok(None) => match self.make(alloc, kind) {
-                Err(NoMemory) => Err(CreateFault::NoMemory),
-                Ok(made) => Ok(made),
-            },
+            Ok(made) => Ok(made),
         }
     }
 

@@ -1,7 +1,8 @@
 -- One round more.
 use Rattle.std.proofs.Common.{◌≡◌, ℕ, suc, ◌+◌, List, ◌++◌, append_assoc, arith, ap, ◌∙◌, sym}
 use Rattle.std.proofs.lemmas.Grind.{flat_map-append}
-use Rattle.made_scripts.specs.Lines.{line_text, text_of}
+use Rattle.report_words.specs.Words.{line}
+use Rattle.made_scripts.specs.Lines.{text_of}
 use Rattle.made_scripts.specs.Scripts.{drawn, next_drawn, round_lines, rounds_lines, sent_by_round, sent_in}
 
 next_is : (n : ℕ) → n + 1 ≡ suc n
@@ -35,7 +36,7 @@ one_round_more seed n last x sent added before now after text_is last_is sent_is
     ∙ sym (lines_more seed n) in
     let text = after_is ∙ ap (λ (t : List ℕ). t ++ text_of round) text_is
     ∙ append_assoc before (text_of (rounds_lines seed n)) (text_of round)
-    ∙ ap (λ (t : List ℕ). before ++ t) (sym (flat_map-append line_text (rounds_lines seed n) round) ∙ ap text_of lines) in
+    ∙ ap (λ (t : List ℕ). before ++ t) (sym (flat_map-append line (rounds_lines seed n) round) ∙ ap text_of lines) in
     let count = ap (λ (k : ℕ). k + added) sent_is
     ∙ ap (λ (k : ℕ). sent_in seed n + k) (added_is ∙ ap (sent_by_round n) draw) ∙ sym (sent_more seed n) in
     (text, draw, count)

@@ -70,8 +70,8 @@ unfoldable pub opening : List (List (List ℕ))
 opening =
     (codes "hosts" ∷ codes "3" ∷ [])
     ∷ (codes "group" ∷ codes "bank" ∷ codes "account" ∷ codes "warm" ∷ codes "0" ∷ codes "1" ∷ codes "2" ∷ [])
-    ∷ (codes "client" ∷ client 0 ∷ []) ∷ (codes "client" ∷ client 1 ∷ [])
-    ∷ (codes "client" ∷ client 2 ∷ []) ∷ (codes "client" ∷ client 3 ∷ []) ∷ []
+    ∷ (codes "client" ∷ codes "c0" ∷ []) ∷ (codes "client" ∷ codes "c1" ∷ [])
+    ∷ (codes "client" ∷ codes "c2" ∷ []) ∷ (codes "client" ∷ codes "c3" ∷ []) ∷ []
 
 -- the primary goes down and is reported, the other two hear of it, and a client asks the next one
 unfoldable pub ending : ℕ → List (List (List ℕ))

@@ -1,10 +1,10 @@
 //! The script of `--make`: rounds of calls to a warm group, of whose requests some arrive twice, and a takeover.
 //!
-//! A script of one round:
+//! A script of five rounds:
 //!
 //! ```
-//! let script = make_script(rt.alloc(), 1)?;
-//! assert!(rt; script.bytes() == ONE_ROUND.as_bytes());
+//! let script = make_script(rt.alloc(), 5)?;
+//! assert!(rt; script.bytes() == FIVE_ROUNDS.as_bytes());
 //! ```
 #![tactic(auto)]
 

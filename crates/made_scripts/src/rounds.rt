@@ -1,10 +1,12 @@
 ghost use Rattle.std.specs.Prelude.{◌≡◌, ◌-◌, ◌<◌, ◌≤◌, ◌^◌, ◌++◌, OnOk, IfOk};
-ghost use Rattle.made_scripts.specs.Lines.{line_text, text_of};
+ghost use Rattle.report_words.specs.Words.{line};
+ghost use Rattle.made_scripts.specs.Lines.{text_of};
 ghost use Rattle.made_scripts.specs.Scripts.{again, call_lines, delivery, deposit, next_drawn, round_lines, rounds_lines, sent_by_call, sent_by_round, sent_by_transfer, sent_in, transfer, transfer_lines};
 
-use crate::lines::Word::{Client, Fixed, Number};
-use crate::lines::{push_line, push_lines};
+use crate::lines::{client, push_lines};
 use ft_base::NoMemory;
+use report_words::Word::{Fixed, Number};
+use report_words::push_line;
 
 fn next_drawn(last: u64) -> u64
     requires { last < 2 ^ 32 }
@@ -15,19 +17,19 @@ fn next_drawn(last: u64) -> u64
 }
 
 fn push_delivery(text: &mut Vec<u8>, message: u64) -> Result<(), NoMemory>
-    ensures { OnOk result (text.new.items ≡ text.old.items ++ line_text (delivery message)) }
+    ensures { OnOk result (text.new.items ≡ text.old.items ++ line (delivery message)) }
 {
     push_line(text, &[Fixed(b"deliver"), Number(message)])
 }
 
 fn push_deposit(text: &mut Vec<u8>, round: u32, drawn: u64) -> Result<(), NoMemory>
-    ensures { OnOk result (text.new.items ≡ text.old.items ++ line_text (deposit round drawn)) }
+    ensures { OnOk result (text.new.items ≡ text.old.items ++ line (deposit round drawn)) }
 {
     push_line(
         text,
         &[
             Fixed(b"call"),
-            Client(u64::from(round % 4)),
+            client(round % 4),
             Fixed(b"bank"),
             Fixed(b"deposit"),
             Number(drawn % 1000),

@@ -2,10 +2,10 @@ ghost use Rattle.std.specs.Prelude.{◌≡◌, ◌<◌, ◌^◌, ◌++◌, IfOk,
 ghost use Rattle.made_scripts.specs.Lines.{text_of};
 ghost use Rattle.made_scripts.specs.Scripts.{ending, opening, script_text};
 
-use crate::lines::Word::{Client, Fixed, Number};
 use crate::lines::push_lines;
 use crate::rounds::push_rounds;
 use ft_base::{Bytes, NoMemory};
+use report_words::Word::{Fixed, Number};
 use std::alloc::Global;
 
 // Rounds have fewer bytes on the average, as long as messages have at most six digits.
@@ -31,10 +31,10 @@ fn push_opening(text: &mut Vec<u8>) -> Result<(), NoMemory>
                 Fixed(b"1"),
                 Fixed(b"2"),
             ],
-            &[Fixed(b"client"), Client(0)],
-            &[Fixed(b"client"), Client(1)],
-            &[Fixed(b"client"), Client(2)],
-            &[Fixed(b"client"), Client(3)],
+            &[Fixed(b"client"), Fixed(b"c0")],
+            &[Fixed(b"client"), Fixed(b"c1")],
+            &[Fixed(b"client"), Fixed(b"c2")],
+            &[Fixed(b"client"), Fixed(b"c3")],
         ],
     )
 }

@@ -1,4 +1,5 @@
 pub mod EffectiveLemmas
 pub mod HostLemmas
+pub mod PartLemmas
 pub mod PlaceLemmas
 pub mod TypeLemmas

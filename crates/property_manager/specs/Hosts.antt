@@ -1,10 +1,10 @@
 -- The values that list hosts: `-` for none, or different hosts between commas.
-use Rattle.std.specs.Prelude.{ℕ, ◌==◌, Bool, if◌then◌else◌, List, [], ◌∷◌, ◌++◌, map, Option, Some, None, codes}
-use Rattle.std.specs.Borrow.{Bor}
-use Rattle.std.specs.List.{slice_split}
+use Rattle.std.specs.Prelude.{ℕ, ◌==◌, ◌<◌, Bool, nat_eq, if◌then◌else◌, List, [], ◌∷◌, ◌++◌, Option, Some, None, codes}
+use Rattle.std.specs.List.{AllByRecursion, IsDistinct, slice_split}
 use Rattle.std.specs.Option.{option_and_then}
 use Rattle.std.specs.Str.{bytes_eq}
 use Rattle.ft_base.specs.Members.{is_member}
+use Rattle.ft_base.specs.declared.limits.TheConstants.{HOST_LIMIT}
 use Rattle.property_manager.specs.Numbers.{host}
 
 abbrev pub is_comma : ℕ → Bool
@@ -26,6 +26,7 @@ hosts_from hosts (text ∷ texts) = option_and_then (λ more. hosts_from more te
 unfoldable pub factories : List ℕ → Option (List ℕ)
 factories text = if bytes_eq text (codes "-") then Some [] else hosts_from [] (slice_split is_comma text)
 
--- the texts of borrowed parts
-abbrev pub texts : List (Bor (List ℕ)) → List (List ℕ)
-texts parts = map (λ part. part.now) parts
+-- hosts that differ
+pub record AreHosts (hosts : List ℕ) : Type 0 where
+  pub different : IsDistinct nat_eq hosts
+  pub below : AllByRecursion (λ host. host < HOST_LIMIT) hosts

@@ -1,5 +1,5 @@
 -- Why a list of properties, or of names, is refused: the first place at fault.
-use Rattle.std.specs.Prelude.{◌≡◌, ◌⊎◌, ℕ, ◌&&◌, ◌||◌, Bool, true, false, if◌then◌else◌, List, [], ◌∷◌, ◌++◌, length, Option, Some, None, is_none, option_map, Result, Ok, Err}
+use Rattle.std.specs.Prelude.{ℕ, ◌&&◌, ◌||◌, Bool, true, false, if◌then◌else◌, List, [], ◌∷◌, ◌++◌, length, Option, Some, None, is_none, option_map, Result, Ok, Err}
 use Rattle.property_manager.specs.declared.faults.PropertyFault.{PropertyFault}
 use Rattle.property_manager.specs.declared.faults.PropertyFault.TheVariants as faults
 use Rattle.property_manager.specs.declared.names.PropertyName.{PropertyName}
@@ -69,6 +69,6 @@ refusal_of_names gone = option_map (λ place. faults.InvalidProperty place) (fir
 
 -- ---- what a call answers that is refused only so
 
-abbrev pub IsJudged : Option PropertyFault → Result (Unit {0}) PropertyFault → Type 0
-IsJudged why (Ok done) = why ≡ None
-IsJudged why (Err fault) = (fault ≡ faults.NoMemory) ⊎ (why ≡ Some fault)
+abbrev pub judged : Option PropertyFault → Result (Unit {0}) PropertyFault
+judged None = Ok tt
+judged (Some why) = Err why

@@ -1,52 +1,36 @@
 //! The hosts at which a group's members can be made.
-ghost use Rattle.std.specs.Prelude.{◌≡◌, ◌<◌, ◌≤◌, ◌^◌, ◌++◌, ◌∷◌, [], None, Some, codes, length, slice_get, option_map, IfOk, MatchResult, OnOk};
+ghost use Rattle.std.specs.Prelude.{◌≡◌, ◌<◌, [], codes, length, position, IfSome};
 ghost use Rattle.std.specs.List.{slice_split};
 ghost use Rattle.std.specs.Str.{bytes_eq};
 ghost use Rattle.ft_base.specs.Members.{is_member};
 ghost use Rattle.property_manager.specs.Numbers.{host};
-ghost use Rattle.property_manager.specs.Hosts.{factories, hosts_from, is_comma, texts, with_host};
+ghost use Rattle.property_manager.specs.Hosts.{factories, hosts_from, is_comma, with_host};
 
-use crate::numbers::bounded;
-use ft_base::{HostNo, NoMemory};
-use std::alloc::{AllocError, Global};
+use crate::numbers::{behind, bounded, front};
+use arrayvec::ArrayVec;
+use ft_base::{HOST_LIMIT, HostNo};
 use std::marker::Model;
 
 /// Different hosts, in the order in which a value has them.
 #[derive(Debug, Drop)]
 pub struct Hosts {
-    hosts: Vec<u8>,
+    hosts: ArrayVec<u8, HOST_LIMIT>,
 }
 
 impl Model for Hosts {
     ghost use Rattle.std.specs.Prelude.{ℕ, List};
+    ghost use Rattle.property_manager.specs.Hosts.{AreHosts};
 
     ghost Value = { List ℕ };
 
     ghost view = { λ h. h.hosts.items };
-}
 
-fn is_comma(byte: u8) -> bool
-    ensures { result ≡ is_comma byte }
-{
-    byte == b','
-}
-
-/// The parts of a text, between commas.
-fn parts_of(alloc: Global, text: &[u8]) -> Result<Vec<&[u8]>, AllocError>
-    ensures { IfOk result (λ v. texts v.items ≡ slice_split is_comma text.now) }
-{
-    text.split(|byte| is_comma(*byte)).collect(alloc)
-}
-
-fn part_at<'a>(parts: &[&'a [u8]], place: usize) -> &'a [u8]
-    requires { place < length parts.now }
-    ensures { slice_get (texts parts.now) place ≡ Some result.now }
-{
-    parts[place]
+    ghost invariant = { λ h. AreHosts h.hosts.items };
 }
 
 fn host_in(text: &[u8]) -> Option<u8>
-    ensures { result ≡ host text.now }
+    ensures value { result ≡ host text.now }
+    ensures within { IfSome result (λ host. host < HOST_LIMIT) }
 {
     match bounded(text, 63) {
         None => None,
@@ -60,12 +44,20 @@ fn is_dash(text: &[u8]) -> bool
     text == b"-".as_slice()
 }
 
+fn first_comma(text: &[u8]) -> Option<usize>
+    ensures place { result ≡ position is_comma text.now }
+    ensures within { IfSome result (λ place. place < length text.now) }
+{
+    text.iter().position(|byte| *byte == b',')
+}
+
 impl Hosts {
-    fn none(alloc: Global) -> Hosts
+    #[tactic(auto, using(crate::proofs::HostLemmas::no_hosts))]
+    fn none() -> Hosts
         ensures { result ≡ [] }
     {
         Hosts {
-            hosts: Vec::new(alloc),
+            hosts: ArrayVec::new(),
         }
     }
 
@@ -84,46 +76,41 @@ impl Hosts {
     }
 
     /// These hosts and the one that a text names, if it names one and that is new.
-    fn with(self, text: &[u8]) -> Result<Option<Hosts>, NoMemory>
-        ensures { IfOk result (λ more. more ≡ with_host self text.now) }
+    #[tactic(auto, using(crate::proofs::HostLemmas::room))]
+    fn with(self, text: &[u8]) -> Option<Hosts>
+        ensures { result ≡ with_host self text.now }
     {
-        let Some(host) = host_in(text) else {
-            return Ok(None);
-        };
+        let host = host_in(text)?;
         if self.has(HostNo(host)) {
-            return Ok(None);
+            return None;
         }
         let mut hosts = self.hosts;
-        hosts.push(host)?;
-        Ok(Some(Hosts { hosts }))
+        hosts.push(host);
+        Some(Hosts { hosts })
     }
 }
 
-/// The hosts that these parts name, if each names one and no other has it.
-#[tactic(auto, using(crate::proofs::HostLemmas::one_more, crate::proofs::HostLemmas::no_more))]
-fn hosts_of(alloc: Global, parts: &[&[u8]]) -> Result<Option<Hosts>, NoMemory>
-    ensures { IfOk result (λ hosts. hosts ≡ hosts_from [] (texts parts.now)) }
+/// The hosts that the parts of a text between commas name, if each names one and no other has it.
+#[tactic(auto, using(crate::proofs::HostLemmas::one_more, crate::proofs::HostLemmas::no_more, crate::proofs::HostLemmas::last_part))]
+fn hosts_in(text: &[u8]) -> Option<Hosts>
+    ensures { result ≡ hosts_from [] (slice_split is_comma text.now) }
 {
-    let mut hosts = Hosts::none(alloc);
-    for place in 0..parts.len() {
-        match hosts.with(part_at(parts, place))? {
-            None => return Ok(None),
-            Some(more) => hosts = more,
-        }
+    let mut hosts = Hosts::none();
+    let mut rest = text;
+    while let Some(place) = first_comma(rest) {
+        hosts = hosts.with(front(rest, place))?;
+        rest = behind(rest, place + 1);
     }
-    Ok(Some(hosts))
+    hosts.with(rest)
 }
 
-/// The hosts that a value lists.
+/// The hosts that a value lists. It takes no memory.
 #[tactic(auto, unfolding(crate::specs::Hosts::factories))]
-pub fn factories(alloc: Global, text: &[u8]) -> Result<Option<Hosts>, NoMemory>
-    ensures { IfOk result (λ hosts. hosts ≡ factories text.now) }
+pub fn factories(text: &[u8]) -> Option<Hosts>
+    ensures { result ≡ factories text.now }
 {
     if is_dash(text) {
-        return Ok(Some(Hosts::none(alloc)));
+        return Some(Hosts::none());
     }
-    let Ok(parts) = parts_of(alloc, text) else {
-        return Err(NoMemory);
-    };
-    hosts_of(alloc, parts.as_slice())
+    hosts_in(text)
 }

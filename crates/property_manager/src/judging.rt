@@ -1,13 +1,12 @@
 //! Whether a list of properties, or of names, is taken.
-ghost use Rattle.std.specs.Prelude.{◌≡◌, ◌<◌, ◌≤◌, ◌^◌, [], Some, None, true, false, length, take, slice_get, is_none, IfOk, IfSome};
-ghost use Rattle.property_manager.specs.Judging.{first_place, is_fixed_name, is_invalid, is_refused, is_wrong, refusal, refusal_of_names, standing_in, IsJudged};
+ghost use Rattle.std.specs.Prelude.{◌≡◌, ◌<◌, ◌≤◌, ◌^◌, [], Some, None, true, false, length, take, slice_get, is_none, IfSome};
+ghost use Rattle.property_manager.specs.Judging.{first_place, is_fixed_name, is_invalid, is_refused, is_wrong, judged, refusal, refusal_of_names, standing_in};
 
 use crate::faults::PropertyFault;
 use crate::names::PropertyName;
 use crate::settings::{Property, has_name, is_among};
 use crate::standings::{Standing, standing_of};
-use ft_base::{Name, NoMemory};
-use std::alloc::Global;
+use ft_base::Name;
 
 fn property_at(properties: &[Property], place: usize) -> &Property
     requires { place < length properties.now }
@@ -39,20 +38,19 @@ fn names_before(names: &[Name], place: usize) -> &[Name]
 
 /// What a property's value is to the property of its name.
 #[tactic(auto, unfolding(crate::specs::Judging::standing_in))]
-fn standing_in(alloc: Global, property: &Property) -> Result<Standing, NoMemory>
-    ensures { IfOk result (λ s. s ≡ standing_in property.now) }
+fn standing_in(property: &Property) -> Standing
+    ensures { result ≡ standing_in property.now }
 {
     match PropertyName::named(property.name.bytes()) {
-        None => Ok(Standing::Unlisted),
-        Some(name) => standing_of(alloc, name, property.value.0.bytes()),
+        None => Standing::Unlisted,
+        Some(name) => standing_of(name, property.value.0.bytes()),
     }
 }
 
-fn is_invalid(alloc: Global, before: &[Property], property: &Property) -> Result<bool, NoMemory>
-    ensures { IfOk result (λ b. b ≡ is_invalid before.now property.now) }
+fn is_invalid(before: &[Property], property: &Property) -> bool
+    ensures { result ≡ is_invalid before.now property.now }
 {
-    let standing = standing_in(alloc, property)?;
-    Ok(standing.is_unlisted() || has_name(before, &property.name))
+    standing_in(property).is_unlisted() || has_name(before, &property.name)
 }
 
 /// Whether a property is settled at a group's creation.
@@ -69,42 +67,38 @@ fn is_fixed(name: Option<PropertyName>) -> bool
     }
 }
 
-fn is_refused(alloc: Global, runs: bool, property: &Property) -> Result<bool, NoMemory>
-    ensures { IfOk result (λ b. b ≡ is_refused runs [] property.now) }
+fn is_refused(runs: bool, property: &Property) -> bool
+    ensures { result ≡ is_refused runs [] property.now }
 {
-    let standing = standing_in(alloc, property)?;
-    Ok(standing.is_unsupported() || (runs && is_fixed(PropertyName::named(property.name.bytes()))))
+    standing_in(property).is_unsupported()
+        || (runs && is_fixed(PropertyName::named(property.name.bytes())))
 }
 
 #[tactic(auto, using(crate::proofs::PlaceLemmas::none_yet, crate::proofs::PlaceLemmas::passed, crate::proofs::PlaceLemmas::found, crate::proofs::PlaceLemmas::none))]
-fn first_invalid(alloc: Global, properties: &[Property]) -> Result<Option<usize>, NoMemory>
-    ensures place { IfOk result (λ place. place ≡ first_place is_invalid [] properties.now) }
-    ensures within { IfOk result (λ place. IfSome place (λ p. p < length properties.now)) }
+fn first_invalid(properties: &[Property]) -> Option<usize>
+    ensures place { result ≡ first_place is_invalid [] properties.now }
+    ensures within { IfSome result (λ p. p < length properties.now) }
 {
     for place in 0..properties.len() {
         let before = properties_before(properties, place);
-        if is_invalid(alloc, before, property_at(properties, place))? {
-            return Ok(Some(place));
+        if is_invalid(before, property_at(properties, place)) {
+            return Some(place);
         }
     }
-    Ok(None)
+    None
 }
 
 #[tactic(auto, using(crate::proofs::PlaceLemmas::none_yet, crate::proofs::PlaceLemmas::passed, crate::proofs::PlaceLemmas::found, crate::proofs::PlaceLemmas::none))]
-fn first_refused(
-    alloc: Global,
-    runs: bool,
-    properties: &[Property],
-) -> Result<Option<usize>, NoMemory>
-    ensures place { IfOk result (λ place. place ≡ first_place (is_refused runs) [] properties.now) }
-    ensures within { IfOk result (λ place. IfSome place (λ p. p < length properties.now)) }
+fn first_refused(runs: bool, properties: &[Property]) -> Option<usize>
+    ensures place { result ≡ first_place (is_refused runs) [] properties.now }
+    ensures within { IfSome result (λ p. p < length properties.now) }
 {
     for place in 0..properties.len() {
-        if is_refused(alloc, runs, property_at(properties, place))? {
-            return Ok(Some(place));
+        if is_refused(runs, property_at(properties, place)) {
+            return Some(place);
         }
     }
-    Ok(None)
+    None
 }
 
 fn is_wrong(before: &[Name], name: &Name) -> bool
@@ -126,23 +120,17 @@ fn first_wrong(names: &[Name]) -> Option<usize>
     None
 }
 
-/// Whether a list of properties is taken; `runs` says that it is for a group that runs.
-pub(crate) fn judge(alloc: Global, properties: &[Property], runs: bool) -> Result<(), PropertyFault>
+/// Whether a list of properties is taken; `runs` says that it is for a group that runs. It takes no memory.
+pub(crate) fn judge(properties: &[Property], runs: bool) -> Result<(), PropertyFault>
     requires { length properties.now ≤ 2 ^ 32 }
-    ensures { IsJudged (refusal runs properties.now) result }
+    ensures { result ≡ judged (refusal runs properties.now) }
 {
-    let Ok(invalid) = first_invalid(alloc, properties) else {
-        return Err(PropertyFault::NoMemory);
-    };
-    if let Some(place) = invalid {
+    if let Some(place) = first_invalid(properties) {
         return Err(PropertyFault::InvalidProperty {
             place: place as u32,
         });
     }
-    let Ok(refused) = first_refused(alloc, runs, properties) else {
-        return Err(PropertyFault::NoMemory);
-    };
-    match refused {
+    match first_refused(runs, properties) {
         None => Ok(()),
         Some(place) => Err(PropertyFault::UnsupportedProperty {
             place: place as u32,
@@ -150,18 +138,18 @@ pub(crate) fn judge(alloc: Global, properties: &[Property], runs: bool) -> Resul
     }
 }
 
-/// Whether the criteria of a group's creation are taken.
-pub fn judge_criteria(alloc: Global, criteria: &[Property]) -> Result<(), PropertyFault>
+/// Whether the criteria of a group's creation are taken. It takes no memory.
+pub fn judge_criteria(criteria: &[Property]) -> Result<(), PropertyFault>
     requires { length criteria.now ≤ 2 ^ 32 }
-    ensures { IsJudged (refusal false criteria.now) result }
+    ensures { result ≡ judged (refusal false criteria.now) }
 {
-    judge(alloc, criteria, false)
+    judge(criteria, false)
 }
 
-/// Whether a list of names to remove is taken.
+/// Whether a list of names to remove is taken. It takes no memory.
 pub(crate) fn judge_names(names: &[Name]) -> Result<(), PropertyFault>
     requires { length names.now ≤ 2 ^ 32 }
-    ensures { IsJudged (refusal_of_names names.now) result }
+    ensures { result ≡ judged (refusal_of_names names.now) }
 {
     match first_wrong(names) {
         None => Ok(()),

@@ -85,8 +85,8 @@ impl Properties {
     }
 }
 
-/// Adds copies of properties.
-fn push_copies(
+/// Adds copies of properties to a list.
+pub fn push_copies(
     alloc: Global,
     list: &mut Vec<Property>,
     properties: &[Property],

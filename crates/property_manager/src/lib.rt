@@ -37,14 +37,14 @@ pub use effective::effective_in;
 pub use faults::PropertyFault;
 pub use host_lists::{Hosts, factories};
 pub use judging::judge_criteria;
-pub use levels::Properties;
+pub use levels::{Properties, push_copies};
 pub use manager::PropertyManager;
 pub use names::PropertyName;
 pub use numbers::{
     IntervalAndTimeout, REPLICAS_LIMIT, TICKS_LIMIT, interval_and_timeout, number_of_replicas,
     number_of_ticks,
 };
-pub use settings::{Property, PropertyValue};
+pub use settings::{Property, PropertyValue, has_name};
 pub use standings::{Standing, standing_of};
 pub use styles::{
     ConsistencyStyle, FaultMonitoringGranularity, FaultMonitoringStyle, MembershipStyle,

@@ -1,4 +1,6 @@
-ghost use Rattle.std.specs.Prelude.{◌≡◌, ◌≤◌, ◌^◌, ◌∷◌, [], None, false, is_some, length, option_map, IfOk, IfErr};
+ghost use Rattle.std.specs.Prelude.{◌≡◌, ◌≤◌, ◌^◌, ◌∷◌, [], None, Some, Err, false, true, is_some, length, option_map, IfOk, IfErr};
+ghost use Rattle.property_manager.specs.declared.effective.Levels.{Levels as Kept};
+ghost use Rattle.property_manager.specs.declared.faults.PropertyFault.{PropertyFault as Fault};
 ghost use Rattle.property_manager.specs.Groups.{dropped, group_of, level_of, levels_of, nothing_set, put_group, put_level, taken, IsGot, IsSet, IsSetFor};
 ghost use Rattle.property_manager.specs.Judging.{refusal, refusal_of_names};
 ghost use Rattle.property_manager.specs.Levels.{all_effective, effective, settled, without};
@@ -52,8 +54,9 @@ impl PropertyManager {
         requires { length properties.now ≤ 2 ^ 32 }
         ensures set { IsSet (refusal false properties.now) self.old (record self.old { defaults = settled self.old.defaults properties.now }) result self.new }
         ensures groups { self.new.groups ≡ self.old.groups }
+        ensures refused { (why : Fault) → refusal false properties.now ≡ Some why → result ≡ Err why }
     {
-        if let Err(fault) = judge(alloc, properties, false) {
+        if let Err(fault) = judge(properties, false) {
             return Err(fault);
         }
         match self.settled_defaults(alloc, properties) {
@@ -104,6 +107,7 @@ impl PropertyManager {
         requires { length names.now ≤ 2 ^ 32 }
         ensures set { IsSet (refusal_of_names names.now) self.old (record self.old { defaults = without names.now self.old.defaults }) result self.new }
         ensures groups { self.new.groups ≡ self.old.groups }
+        ensures refused { (why : Fault) → refusal_of_names names.now ≡ Some why → result ≡ Err why }
     {
         if let Err(fault) = judge_names(names) {
             return Err(fault);
@@ -127,8 +131,9 @@ impl PropertyManager {
         requires { length properties.now ≤ 2 ^ 32 }
         ensures set { IsSet (refusal false properties.now) self.old (record self.old { by_type = put_level self.old.by_type type_id.now (settled (level_of self.old.by_type type_id.now) properties.now) }) result self.new }
         ensures groups { self.new.groups ≡ self.old.groups }
+        ensures refused { (why : Fault) → refusal false properties.now ≡ Some why → result ≡ Err why }
     {
-        if let Err(fault) = judge(alloc, properties, false) {
+        if let Err(fault) = judge(properties, false) {
             return Err(fault);
         }
         match self.settled_type(alloc, type_id, properties) {
@@ -188,6 +193,7 @@ impl PropertyManager {
         requires { length names.now ≤ 2 ^ 32 }
         ensures set { IsSet (refusal_of_names names.now) self.old (record self.old { by_type = put_level self.old.by_type type_id.now (without names.now (level_of self.old.by_type type_id.now)) }) result self.new }
         ensures groups { self.new.groups ≡ self.old.groups }
+        ensures refused { (why : Fault) → refusal_of_names names.now ≡ Some why → result ≡ Err why }
     {
         if let Err(fault) = judge_names(names) {
             return Err(fault);
@@ -213,9 +219,10 @@ impl PropertyManager {
     ) -> Result<(), PropertyFault>
         requires new { group_of self.old.groups group.0 ≡ None }
         requires few { length criteria.now ≤ 2 ^ 32 }
-        ensures { IsSet (refusal false criteria.now) self.old (record self.old { groups = put_group self.old.groups group.0 (taken self.old type_id.now criteria.now) }) result self.new }
+        ensures set { IsSet (refusal false criteria.now) self.old (record self.old { groups = put_group self.old.groups group.0 (taken self.old type_id.now criteria.now) }) result self.new }
+        ensures refused { (why : Fault) → refusal false criteria.now ≡ Some why → result ≡ Err why }
     {
-        if let Err(fault) = judge(alloc, criteria, false) {
+        if let Err(fault) = judge(criteria, false) {
             return Err(fault);
         }
         match self.taken(alloc, type_id, criteria) {
@@ -251,12 +258,13 @@ impl PropertyManager {
         properties: &[Property],
     ) -> Result<(), PropertyFault>
         requires { length properties.now ≤ 2 ^ 32 }
-        ensures { IsSetFor group properties.now (group_of self.old.groups group.0) self.old result self.new }
+        ensures set { IsSetFor group properties.now (group_of self.old.groups group.0) self.old result self.new }
+        ensures refused { (levels : Kept) → group_of self.old.groups group.0 ≡ Some levels → (why : Fault) → refusal true properties.now ≡ Some why → result ≡ Err why }
     {
         let Some(levels) = group_of(&self.groups, group) else {
             return Err(PropertyFault::ObjectGroupNotFound(group));
         };
-        if let Err(fault) = judge(alloc, properties, true) {
+        if let Err(fault) = judge(properties, true) {
             return Err(fault);
         }
         match levels.with_dynamic(alloc, properties) {

@@ -58,14 +58,16 @@ fn first_slash(text: &[u8]) -> Option<usize>
     text.iter().position(|byte| *byte == b'/')
 }
 
-fn front(text: &[u8], place: usize) -> &[u8]
+/// The bytes before a place.
+pub(crate) fn front(text: &[u8], place: usize) -> &[u8]
     requires { place ≤ length text.now }
     ensures { result.now ≡ take place text.now }
 {
     &text[..place]
 }
 
-fn behind(text: &[u8], place: usize) -> &[u8]
+/// The bytes from a place on.
+pub(crate) fn behind(text: &[u8], place: usize) -> &[u8]
     requires { place ≤ length text.now }
     ensures { result.now ≡ drop place text.now }
 {

@@ -29,7 +29,7 @@ impl Property {
 }
 
 /// Whether one of these properties has a name.
-pub(crate) fn has_name(properties: &[Property], name: &Name) -> bool
+pub fn has_name(properties: &[Property], name: &Name) -> bool
     ensures { result ≡ has_name name.now properties.now }
 {
     properties.iter().any(|property| property.name.is(name))

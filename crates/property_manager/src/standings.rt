@@ -1,5 +1,5 @@
 //! What a text is as the value of a property.
-ghost use Rattle.std.specs.Prelude.{◌≡◌, IfOk};
+ghost use Rattle.std.specs.Prelude.{◌≡◌};
 ghost use Rattle.property_manager.specs.Standings as standings;
 
 use crate::host_lists::factories;
@@ -9,8 +9,6 @@ use crate::styles::{
     ConsistencyStyle, FaultMonitoringGranularity, FaultMonitoringStyle, MembershipStyle,
     ReplicationStyle,
 };
-use ft_base::NoMemory;
-use std::alloc::Global;
 
 /// What a text is as the value of a property.
 #[derive(Clone, Copy, Debug, PartialEq, Eq)]
@@ -108,11 +106,10 @@ fn of_granularity(text: &[u8]) -> Standing
     }
 }
 
-fn of_factories(alloc: Global, text: &[u8]) -> Result<Standing, NoMemory>
-    ensures { IfOk result (λ s. s ≡ standings.of_factories text.now) }
+fn of_factories(text: &[u8]) -> Standing
+    ensures { result ≡ standings.of_factories text.now }
 {
-    let hosts = factories(alloc, text)?;
-    Ok(listed(hosts.is_some()))
+    listed(factories(text).is_some())
 }
 
 fn of_replicas(text: &[u8]) -> Standing
@@ -135,19 +132,19 @@ fn of_ticks(text: &[u8]) -> Standing
 
 /// What a text is as the value of a property.
 #[tactic(auto, unfolding(crate::specs::Standings::standing_of))]
-pub fn standing_of(alloc: Global, name: PropertyName, text: &[u8]) -> Result<Standing, NoMemory>
-    ensures { IfOk result (λ s. s ≡ standings.standing_of name text.now) }
+pub fn standing_of(name: PropertyName, text: &[u8]) -> Standing
+    ensures { result ≡ standings.standing_of name text.now }
 {
     match name {
-        PropertyName::ReplicationStyle => Ok(of_replication_style(text)),
-        PropertyName::MembershipStyle => Ok(of_membership_style(text)),
-        PropertyName::ConsistencyStyle => Ok(of_consistency_style(text)),
-        PropertyName::FaultMonitoringStyle => Ok(of_monitoring_style(text)),
-        PropertyName::FaultMonitoringGranularity => Ok(of_granularity(text)),
-        PropertyName::Factories => of_factories(alloc, text),
-        PropertyName::InitialNumberReplicas => Ok(of_replicas(text)),
-        PropertyName::MinimumNumberReplicas => Ok(of_replicas(text)),
-        PropertyName::FaultMonitoringIntervalAndTimeout => Ok(of_interval(text)),
-        PropertyName::CheckpointInterval => Ok(of_ticks(text)),
+        PropertyName::ReplicationStyle => of_replication_style(text),
+        PropertyName::MembershipStyle => of_membership_style(text),
+        PropertyName::ConsistencyStyle => of_consistency_style(text),
+        PropertyName::FaultMonitoringStyle => of_monitoring_style(text),
+        PropertyName::FaultMonitoringGranularity => of_granularity(text),
+        PropertyName::Factories => of_factories(text),
+        PropertyName::InitialNumberReplicas => of_replicas(text),
+        PropertyName::MinimumNumberReplicas => of_replicas(text),
+        PropertyName::FaultMonitoringIntervalAndTimeout => of_interval(text),
+        PropertyName::CheckpointInterval => of_ticks(text),
     }
 }

@@ -293,7 +293,7 @@ pulls_by p zs most kept name s first told q is = go (kept.n.at s.place s.number)
     )
     go (Some c) e (Err faults.NoSubscriber) is = absurd is
     go (Some c) e (Err (faults.Full limit)) is = absurd is
-    go (Some c) e (Err faults.NoMemory) is = (stays p zs most kept q is, shows_same p zs most kept q is)
+    go (Some c) e (Err faults.NoMemory) is = (stays p zs most kept q is.1, shows_same p zs most kept q is.1)
 
 -- ---- beginning
 
@@ -328,12 +328,12 @@ refused s name f new limit reached same = go (full s) reached
 pub unconnected : (n : Notified) (f : Filter) (why : NotifyFault) (p q : Picture) → IsConnected n f (Err why) p q → q ≡ p
 unconnected n f faults.NoSubscriber p q is = absurd is
 unconnected n f (faults.Full limit) p q is = is.1
-unconnected n f faults.NoMemory p q is = is
+unconnected n f faults.NoMemory p q is = is.1
 
 pub unpushed : (n : Notified) (event : FaultEvent) (why : NotifyFault) (p q : Picture) → IsPushed n event (Err why) p q → q ≡ p
 unpushed n event faults.NoSubscriber p q is = absurd is
 unpushed n event (faults.Full limit) p q is = is.2
-unpushed n event faults.NoMemory p q is = is
+unpushed n event faults.NoMemory p q is = is.1
 
 pub disconnects : (p : Picture) (zs : List Named) (most : ℕ) (kept : IsKept p zs most) (name : List ℕ) (s : Sub) → first_sub name zs ≡ Some s
     → (why : NotifyFault) (q : Picture) → IsDisconnected kept.n s (Err why) p q → ⊥

@@ -24,7 +24,8 @@ use ft_report::{ReportLine, ReportLines, SettingFault};
 use generic_factory::{CreateFault, Factory, OBJECT_LIMIT};
 use group_model::Change;
 use property_manager::{
-    Properties, Property, PropertyName, ReplicationStyle, effective_in, factories,
+    Properties, Property, PropertyName, ReplicationStyle, effective_in, factories, has_name,
+    push_copies,
 };
 use script_world::{GROUP_LIMIT, World};
 use shipped_servants::Kind;
@@ -46,27 +47,6 @@ fn refuses_creation(world: &World, name: &Name) -> Option<LineFault>
         return Some(LineFault::Limit(LimitName::Groups));
     }
     None
-}
-
-fn has_name(properties: &[Property], name: &Name) -> bool
-    ensures { result ≡ has_name name.now properties.now }
-{
-    properties.iter().any(|property| property.name.is(name))
-}
-
-// Copies of properties.
-fn push_all(
-    alloc: Global,
-    list: &mut Vec<Property>,
-    properties: &[Property],
-) -> Result<(), NoMemory>
-    ensures { OnOk result (list.new.items ≡ list.old.items ++ properties.now) }
-{
-    for property in properties {
-        let copy = property.copy(alloc)?;
-        list.push(copy)?;
-    }
-    Ok(())
 }
 
 // A copy of a property that a list lacks.
@@ -130,7 +110,7 @@ fn in_full(world: &World, kind: Kind, criteria: &[Property]) -> Result<Vec<Prope
     let alloc = world.alloc();
     let values = values_of_kind(world, kind)?;
     let mut full = Vec::new(alloc);
-    push_all(alloc, &mut full, criteria)?;
+    push_copies(alloc, &mut full, criteria)?;
     push_lacking(alloc, &mut full, criteria, values.all())?;
     Ok(full)
 }
@@ -257,37 +237,37 @@ fn can_make(world: &World, host: HostNo) -> bool
 }
 
 // Whether a list of hosts has this one.
-fn is_listed_in(alloc: Global, text: &[u8], host: HostNo) -> Result<bool, NoMemory>
-    ensures { IfOk result (λ listed. listed ≡ is_listed_in host.0 (factories text.now)) }
+fn is_listed_in(text: &[u8], host: HostNo) -> bool
+    ensures { result ≡ is_listed_in host.0 (factories text.now) }
 {
-    match factories(alloc, text)? {
-        None => Ok(false),
-        Some(hosts) => Ok(hosts.has(host)),
+    match factories(text) {
+        None => false,
+        Some(hosts) => hosts.has(host),
     }
 }
 
 // Whether the group's property Factories lists the host.
-fn is_listed(world: &World, place: usize, host: HostNo) -> Result<bool, NoMemory>
+fn is_listed(world: &World, place: usize, host: HostNo) -> bool
     requires { place < length world.now.groups }
-    ensures { (g : Group) → slice_get world.now.groups place ≡ Some g → IfOk result (λ listed. listed ≡ is_listed world.now g host.0) }
+    ensures { (g : Group) → slice_get world.now.groups place ≡ Some g → result ≡ is_listed world.now g host.0 }
 {
     let group = world.group(place).id();
     match world.properties().value(group, PropertyName::Factories) {
-        None => Ok(false),
-        Some(text) => is_listed_in(world.alloc(), text, host),
+        None => false,
+        Some(text) => is_listed_in(text, host),
     }
 }
 
 // What is asked of the group at this place where the host is to make a member of it.
-fn creation(world: &World, place: usize, host: HostNo) -> Result<Change, NoMemory>
+fn creation(world: &World, place: usize, host: HostNo) -> Change
     requires within { place < length world.now.groups }
     requires kept { IsKeptWorld world.now }
-    ensures value { (g : Group) → slice_get world.now.groups place ≡ Some g → IfOk result (λ change. change ≡ creation world.now g host.0) }
-    ensures host { IfOk result (λ change. host_of_change change ≡ host) }
+    ensures value { (g : Group) → slice_get world.now.groups place ≡ Some g → result ≡ creation world.now g host.0 }
+    ensures host { host_of_change result ≡ host }
 {
-    let listed = is_listed(world, place, host)?;
+    let listed = is_listed(world, place, host);
     let made = can_make(world, host);
-    Ok(Change::Create { host, listed, made })
+    Change::Create { host, listed, made }
 }
 
 // The host makes a member of the group at this place.
@@ -306,10 +286,7 @@ fn grow<L: Ledger>(
         Some(host) => host,
         None => return Err(LineFault::Unknown),
     };
-    let change = match creation(world, place, host) {
-        Ok(change) => change,
-        Err(NoMemory) => return Err(LineFault::NoMemory),
-    };
+    let change = creation(world, place, host);
     match change_members(world, place, change, host, steps) {
         Ok(report) => Ok(report),
         Err(NoMemory) => Err(LineFault::NoMemory),

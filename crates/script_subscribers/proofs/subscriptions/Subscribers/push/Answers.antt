@@ -13,13 +13,13 @@ invariant_of-self c = past_most _ _ _ c.self.invariant c.if-self-ge-EVENT_LIMIT.
 pub invariant_of-self-in-Ok : goal.invariant_of-self-in-Ok
 invariant_of-self-in-Ok c =
     let kept = c.self.invariant in
-    pushes _ _ _ kept c.args.event c.push.new.self (c.in-Ok.ensures kept.n kept.stands) c.if-self-ge-EVENT_LIMIT.false
+    pushes _ _ _ kept c.args.event c.push.new.self (c.in-Ok.ensures kept.n kept.stands).1 c.if-self-ge-EVENT_LIMIT.false
 
 pub returns-in-Ok-clause-told : goal.returns-in-Ok-clause-told
 returns-in-Ok-clause-told c =
     let kept = c.self.invariant in
     subst (λ (s : Subscribers). shown c.push.new.self c.self.inside.named.items (c.self.inside.faults + 1) ≡ told s c.args.event) c.self.view_is
-    (told_is _ _ _ kept c.args.event c.push.new.self (c.in-Ok.ensures kept.n kept.stands) c.if-self-ge-EVENT_LIMIT.false)
+    (told_is _ _ _ kept c.args.event c.push.new.self (c.in-Ok.ensures kept.n kept.stands).1 c.if-self-ge-EVENT_LIMIT.false)
 
 pub unreachable-requires : goal.unreachable-requires
 unreachable-requires c =
