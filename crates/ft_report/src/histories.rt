@@ -1,69 +1,92 @@
-ghost use Rattle.std.specs.Prelude.{◌≡◌, List, [], ◌∷◌, ◌++◌};
-ghost use Rattle.std.specs.Borrow.{ftrue};
-ghost use Rattle.ft_report.specs.declared.reports.ReportLine.{ReportLine as Said};
+//! The lines that were written, in order: for proofs alone.
+ghost use Rattle.std.specs.Prelude.{◌≡◌, [], ◌∷◌, ◌++◌};
+ghost use Rattle.ft_report.specs.Writing.{line_of};
+ghost use Rattle.ft_report.specs.declared.reports.ReportLine.{ReportLine};
 
 use crate::outcomes::ReportOutcome;
 use crate::reports::ReportLine;
 use ft_base::{Bytes, Decision, HostNo, Name};
+use past_events::PastEvents;
 use std::marker::Model;
+use std::snapshot::Snapshot;
 
-/// The lines that were written, in order: for proofs alone. It takes no memory, and its calls do nothing at run time.
+/// A line that was written, by what it was made of.
 #[derive(Drop)]
-pub struct Written {
-    pub ghost lines: { List Said },
+pub(crate) enum WrittenLine {
+    Whole(Snapshot<ReportLine>),
+    /// What a host made of a request.
+    At {
+        host: HostNo,
+        group: Snapshot<Name>,
+        decision: Decision,
+    },
+    Reply {
+        message: u64,
+        host: HostNo,
+        client: Snapshot<Name>,
+        id: u32,
+        shown: Snapshot<ReportOutcome>,
+    },
+    /// What a host wrote on a link.
+    Bytes(Snapshot<Bytes>),
+}
+
+#[derive(Drop)]
+pub(crate) struct Written {
+    lines: PastEvents<WrittenLine>,
 }
 
 impl Model for Written {
-    ghost also_owns = { λ _. ftrue };
+    ghost use Rattle.std.specs.Prelude.{List, map};
+    ghost use Rattle.ft_report.specs.Writing.{line_of};
+    ghost use Rattle.ft_report.specs.declared.reports.ReportLine.{ReportLine};
+
+    ghost Value = { List ReportLine };
+
+    ghost view = { λ w. map line_of w.lines };
 }
 
 impl Written {
     /// No line was written.
-    pub fn new() -> Written
-        ensures { result.lines ≡ [] }
+    pub(crate) fn new() -> Written
+        ensures { result ≡ [] }
     {
-        Written {}
+        Written {
+            lines: PastEvents::new(),
+        }
     }
 
-    /// The lines of before, and then this.
-    pub fn with(before: &Written, line: &ReportLine) -> Written
-        ensures { result.lines ≡ before.now.lines ++ line.now ∷ [] }
+    /// This line was written too, last.
+    pub(crate) fn push(&mut self, line: WrittenLine)
+        ensures { self.new ≡ self.old ++ line_of line ∷ [] }
     {
-        Written {}
+        self.lines.push(Snapshot::of(&line));
     }
 
-    /// The lines of before, and then what a host made of a request.
-    pub fn with_at(before: &Written, host: &HostNo, group: &Name, decision: &Decision) -> Written
-        ensures { result.lines ≡ before.now.lines ++ ReportLine.At host.now group.now decision.now ∷ [] }
-    {
-        Written {}
-    }
-
-    /// The lines of before, and then a reply.
-    pub fn with_reply(
-        before: &Written,
-        message: &u64,
-        host: &HostNo,
+    /// A reply was written too, last.
+    pub(crate) fn push_reply(
+        &mut self,
+        message: u64,
+        host: HostNo,
         client: &Name,
-        id: &u32,
+        id: u32,
         shown: &ReportOutcome,
-    ) -> Written
-        ensures { result.lines ≡ before.now.lines ++ ReportLine.Reply message.now host.now client.now id.now shown.now ∷ [] }
+    )
+        ensures { self.new ≡ self.old ++ ReportLine.Reply message host client.now id shown.now ∷ [] }
     {
-        Written {}
+        self.push(WrittenLine::Reply {
+            message,
+            host,
+            client: Snapshot::of(client),
+            id,
+            shown: Snapshot::of(shown),
+        });
     }
 
-    /// The lines of before, and then what a host wrote on a link.
-    pub fn with_bytes(before: &Written, bytes: &Bytes) -> Written
-        ensures { result.lines ≡ before.now.lines ++ ReportLine.Bytes bytes.now ∷ [] }
+    /// Others were written too, after them.
+    pub(crate) fn append(&mut self, others: &Written)
+        ensures { self.new ≡ self.old ++ others.now }
     {
-        Written {}
-    }
-
-    /// The lines of before, and then others.
-    pub fn joined(before: &Written, others: &Written) -> Written
-        ensures { result.lines ≡ before.now.lines ++ others.now.lines }
-    {
-        Written {}
+        self.lines.append(&others.lines);
     }
 }

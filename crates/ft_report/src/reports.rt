@@ -3,7 +3,7 @@ ghost use Rattle.std.specs.List.{flat_map};
 ghost use Rattle.ft_report.specs.Report.{report_text};
 ghost use Rattle.ft_report.specs.declared.reports.ReportLine.{ReportLine};
 
-use crate::histories::Written;
+use crate::histories::{Written, WrittenLine};
 use crate::outcomes::ReportOutcome;
 use crate::rendering::{at_line, bytes_line, closed_line, reply_line, write_line};
 use ft_base::{Bytes, Decision, GroupId, HostNo, Ignored, Members, Name, NoMemory, Tick, Version};
@@ -11,6 +11,7 @@ use giop_messages::Why;
 use group_model::ManageFault;
 use std::alloc::Global;
 use std::marker::Model;
+use std::snapshot::Snapshot;
 
 /// What a host is in a group.
 #[derive(Clone, Copy, Debug, PartialEq, Eq)]
@@ -375,9 +376,9 @@ impl Model for ReportLines {
 
     ghost Value = { List ReportLine };
 
-    ghost view = { λ r. r.written.lines };
+    ghost view = { λ r. r.written };
 
-    ghost invariant = { λ r. r.text.items ≡ flat_map report_text r.written.lines };
+    ghost invariant = { λ r. r.text.items ≡ flat_map report_text r.written };
 }
 
 // Most reports have two or three lines.
@@ -396,7 +397,7 @@ fn room_of_first(text: &mut Vec<u8>, alloc: Global) -> Result<(), NoMemory>
 // Takes all lines back, where no memory is left.
 fn clear(text: &mut Vec<u8>, written: &mut Written)
     ensures text { text.new.items ≡ [] }
-    ensures lines { written.new.lines ≡ [] }
+    ensures lines { written.new ≡ [] }
 {
     text.clear();
     *written = Written::new();
@@ -423,7 +424,7 @@ impl ReportLines {
             clear(&mut self.text, &mut self.written);
             return Err(NoMemory);
         }
-        self.written = Written::with(&self.written, &line);
+        self.written.push(WrittenLine::Whole(Snapshot::of(&line)));
         Ok(())
     }
 
@@ -441,7 +442,11 @@ impl ReportLines {
             clear(&mut self.text, &mut self.written);
             return Err(NoMemory);
         }
-        self.written = Written::with_at(&self.written, &host, group, &decision);
+        self.written.push(WrittenLine::At {
+            host,
+            group: Snapshot::of(group),
+            decision,
+        });
         Ok(())
     }
 
@@ -463,7 +468,7 @@ impl ReportLines {
             clear(&mut self.text, &mut self.written);
             return Err(NoMemory);
         }
-        self.written = Written::with_reply(&self.written, &message, &host, client, &id, shown);
+        self.written.push_reply(message, host, client, id, shown);
         Ok(())
     }
 
@@ -476,7 +481,7 @@ impl ReportLines {
             clear(&mut self.text, &mut self.written);
             return Err(NoMemory);
         }
-        self.written = Written::with_bytes(&self.written, bytes);
+        self.written.push(WrittenLine::Bytes(Snapshot::of(bytes)));
         Ok(())
     }
 
@@ -490,7 +495,8 @@ impl ReportLines {
             clear(&mut self.text, &mut self.written);
             return Err(NoMemory);
         }
-        self.written = Written::with(&self.written, &ReportLine::LinkClosed);
+        self.written
+            .push(WrittenLine::Whole(Snapshot::of(&ReportLine::LinkClosed)));
         Ok(())
     }
 
@@ -502,7 +508,7 @@ impl ReportLines {
             clear(&mut self.text, &mut self.written);
             return Err(NoMemory);
         }
-        self.written = Written::joined(&self.written, &others.written);
+        self.written.append(&others.written);
         Ok(())
     }
 

@@ -17,7 +17,7 @@ ghost use Rattle.ft_base.specs.declared.decisions.Stop.{Stop as AStop};
 ghost use Rattle.script_groups.specs.Acting.{MayCome};
 ghost use Rattle.world_turns.specs.Naming.{Deleted, There, group_with_number};
 ghost use Rattle.ft_world.specs.Printed.{shown};
-ghost use Rattle.world_turns.specs.Sending.{carried};
+ghost use Rattle.script_world.specs.World.{carried};
 ghost use Rattle.script_world.specs.Sound.{IsKeptWorld, IsOnItsWay};
 
 use crate::calls::does;

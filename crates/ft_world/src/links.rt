@@ -18,7 +18,7 @@ ghost use Rattle.script_world.specs.Worlds.{IsPlace};
 ghost use Rattle.world_turns.specs.Answers.{Acts, Does};
 ghost use Rattle.ft_world.specs.Links.{ask_group, bytes_lines, end_line, forward_by, group_keyed, inject_line, is_here, link_of, port_answer, world_port};
 ghost use Rattle.ft_world.specs.Printed.{gives_of};
-ghost use Rattle.world_turns.specs.Sending.{carried};
+ghost use Rattle.script_world.specs.World.{carried};
 ghost use Rattle.ft_world.specs.Serving.{AnsweredBy, AreInForm, Asks, Changes, IsInForm, Served};
 
 use crate::printing::gives_of;

@@ -12,6 +12,7 @@ use iogr_reference::GroupRef;
 use std::alloc::Global;
 use std::collections::VecDeque;
 use std::marker::Model;
+use std::snapshot::Snapshot;
 
 /// A client of a script. It sends nothing itself. Contracts see it as the plain client that all that has
 /// happened to it makes.
@@ -32,9 +33,9 @@ impl Model for ScriptClient {
 
     ghost Value = { Client };
 
-    ghost view = { λ c. c.history.client };
+    ghost view = { λ c. c.history };
 
-    ghost invariant = { λ c. IsKept (record { name = c.name; started = c.started; numbered = c.numbered; others = c.others.items; core = c.core; call = c.call }) c.history.client };
+    ghost invariant = { λ c. IsKept (record { name = c.name; started = c.started; numbered = c.numbered; others = c.others.items; core = c.core; call = c.call }) c.history };
 }
 
 fn while_open(is_open: bool, call: Call) -> Option<Call>
@@ -98,7 +99,7 @@ impl ScriptClient {
         self.others.reserve(1)?;
         let last = self.core.take_reference();
         let reference = take_known(&mut self.others, last, group);
-        self.history = History::with(&self.history, &Happening::Took(group));
+        self.history.push(Snapshot::of(&Happening::Took(group)));
         Ok(reference)
     }
 
@@ -109,13 +110,10 @@ impl ScriptClient {
         ensures kept { OnErr result (self.new ≡ self.old) }
     {
         self.others.reserve(2)?;
-        let (history, happening) = self.history.followed_by(Happening::Bound(reference));
-        let Happening::Bound(reference) = happening else {
-            unreachable!()
-        };
+        let happening = Happening::Bound(Snapshot::of(&reference));
         let last = self.core.take_reference();
         put_known(&mut self.others, last, reference);
-        self.history = history;
+        self.history.push(Snapshot::of(&happening));
         Ok(())
     }
 
@@ -137,20 +135,11 @@ impl ScriptClient {
         ensures client { self.new ≡ (starting self.old reference expiration numbers versioned request).client }
     {
         let happening = Happening::Began {
-            reference,
+            reference: Snapshot::of(&reference),
             expiration,
             numbers,
             versioned,
-            request,
-        };
-        let (history, happening) = self.history.followed_by(happening);
-        let Happening::Began {
-            reference,
-            request,
-            ..
-        } = happening
-        else {
-            unreachable!()
+            request: Snapshot::of(&request),
         };
         let number = self.started + 1;
         let act = self.core.start(reference, expiration);
@@ -166,7 +155,7 @@ impl ScriptClient {
         };
         let told = told_of(alloc, &call, self.core.reference(), act);
         self.call = while_open(is_open, call);
-        self.history = history;
+        self.history.push(Snapshot::of(&happening));
         told
     }
 
@@ -182,11 +171,10 @@ impl ScriptClient {
         ensures told { IfOk result (λ told. told ≡ (hearing self.old id heard now).told) }
         ensures client { self.new ≡ (hearing self.old id heard now).client }
     {
-        let (history, happening) = self
-            .history
-            .followed_by(Happening::Heard { id, heard, now });
-        let Happening::Heard { heard, .. } = happening else {
-            unreachable!()
+        let happening = Happening::Heard {
+            id,
+            heard: Snapshot::of(&heard),
+            now,
         };
         let Some(call) = self.call.take() else {
             return Ok(Told::Nothing);
@@ -194,7 +182,7 @@ impl ScriptClient {
         let act = self.core.reply(id, heard, now);
         let told = told_of(alloc, &call, self.core.reference(), act);
         self.call = while_open(self.core.is_open(), call);
-        self.history = history;
+        self.history.push(Snapshot::of(&happening));
         told
     }
 
@@ -210,7 +198,7 @@ impl ScriptClient {
         let act = self.core.fault(now);
         let told = told_of(alloc, &call, self.core.reference(), act);
         self.call = while_open(self.core.is_open(), call);
-        self.history = History::with(&self.history, &Happening::Failed(now));
+        self.history.push(Snapshot::of(&Happening::Failed(now)));
         told
     }
 }

@@ -1,44 +1,45 @@
-//! What has happened to a client, for proofs alone: it takes no memory, and its calls do nothing at run time.
+//! What has happened to a client, for proofs alone.
 ghost use Rattle.std.specs.Prelude.{◌≡◌};
-ghost use Rattle.std.specs.Borrow.{ftrue};
-ghost use Rattle.script_clients.specs.Clients.{Client, new_client};
+ghost use Rattle.script_clients.specs.Clients.{new_client};
 ghost use Rattle.script_clients.specs.Happenings.{happened};
 
 use crate::happenings::Happening;
 use ft_base::Name;
+use past_events::PastEvents;
 use std::marker::Model;
+use std::snapshot::Snapshot;
 
 /// The plain client that all that has happened to a client makes.
 #[derive(Drop)]
 pub(crate) struct History {
-    pub(crate) ghost client: { Client },
+    name: Snapshot<Name>,
+    past: PastEvents<Happening>,
 }
 
 impl Model for History {
-    ghost also_owns = { λ _. ftrue };
+    ghost use Rattle.script_clients.specs.Clients.{Client};
+    ghost use Rattle.script_clients.specs.Happenings.{client_after};
+
+    ghost Value = { Client };
+
+    ghost view = { λ h. client_after h.name.value h.past };
 }
 
 impl History {
     /// Nothing has happened to a client with this name.
     pub(crate) fn new(name: &Name) -> History
-        ensures { result.client ≡ new_client name.now }
+        ensures { result ≡ new_client name.now }
     {
-        History {}
+        History {
+            name: Snapshot::of(name),
+            past: PastEvents::new(),
+        }
     }
 
-    /// What has happened before, and then this.
-    pub(crate) fn with(before: &History, happening: &Happening) -> History
-        ensures { result.client ≡ happened before.now.client happening.now }
+    /// This has happened too.
+    pub(crate) fn push(&mut self, happening: Snapshot<Happening>)
+        ensures { self.new ≡ happened self.old happening.value }
     {
-        History {}
-    }
-
-    /// The history with this, and this again.
-    pub(crate) fn followed_by(&self, happening: Happening) -> (History, Happening)
-        ensures history { result.0.client ≡ happened self.now.client happening }
-        ensures happening { result.1 ≡ happening }
-    {
-        let history = History::with(self, &happening);
-        (history, happening)
+        self.past.push(happening);
     }
 }

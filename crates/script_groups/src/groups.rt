@@ -12,11 +12,12 @@ ghost use Rattle.script_groups.specs.Standing.{IsStanding};
 use ft_base::{GroupId, Members, Name, NoMemory, Signature, Steps, Style, Tick, Version, View};
 use ft_outside::MemKeeper;
 use group_core::{GroupCore, cores_tell, unfailing_logs_show_no_fault};
-use group_history::History;
 use group_model::{Event, GroupAnswer, groups_grow};
+use past_events::PastEvents;
 use shipped_servants::{Kind, Shipped};
 use std::alloc::Global;
 use std::marker::Model;
+use std::snapshot::Snapshot;
 use std::sync::ledger::Ledger;
 
 /// A group of a script. Contracts see it as how it opened and the events that it has had since; the core
@@ -31,7 +32,7 @@ pub struct ScriptGroup {
     kind: Kind,
     style: Style,
     members: Members,
-    history: History,
+    history: PastEvents<Event>,
     poisoned: bool,
     core: GroupCore<Shipped, MemKeeper>,
 }
@@ -82,7 +83,7 @@ impl ScriptGroup {
                 kind,
                 style,
                 members: first,
-                history: History::new(),
+                history: PastEvents::new(),
                 poisoned: false,
                 core,
             }),
@@ -204,13 +205,13 @@ impl ScriptGroup {
     {
         unfailing_logs_show_no_fault();
         groups_grow();
-        let history = History::with(&self.history, &event);
+        let past = Snapshot::of(&event);
         let answer = self.core.act(alloc, event, steps);
         if is_short(&answer) {
             self.poisoned = true;
             return answer;
         }
-        self.history = history;
+        self.history.push(past);
         answer
     }
 }

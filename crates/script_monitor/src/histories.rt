@@ -1,34 +1,42 @@
-//! What a monitor was told, for proofs alone: it takes no memory, and its calls do nothing at run time.
+//! What a monitor was told, for proofs alone.
 ghost use Rattle.std.specs.Prelude.{◌≡◌};
-ghost use Rattle.std.specs.Borrow.{ftrue};
-ghost use Rattle.script_monitor.specs.Watches.{Watches, nobody};
+ghost use Rattle.script_monitor.specs.Watches.{nobody};
 ghost use Rattle.script_monitor.specs.Happenings.{happened};
 
 use crate::happenings::Happening;
+use past_events::PastEvents;
 use std::marker::Model;
+use std::snapshot::Snapshot;
 
 /// The watched members that all that a monitor was told makes.
 #[derive(Drop)]
 pub(crate) struct History {
-    pub(crate) ghost watches: { Watches },
+    past: PastEvents<Happening>,
 }
 
 impl Model for History {
-    ghost also_owns = { λ _. ftrue };
+    ghost use Rattle.script_monitor.specs.Happenings.{watches_after};
+    ghost use Rattle.script_monitor.specs.Watches.{Watches};
+
+    ghost Value = { Watches };
+
+    ghost view = { λ h. watches_after h.past };
 }
 
 impl History {
     /// It was told nothing.
     pub(crate) fn new() -> History
-        ensures { result.watches ≡ nobody }
+        ensures { result ≡ nobody }
     {
-        History {}
+        History {
+            past: PastEvents::new(),
+        }
     }
 
-    /// What it was told before, and then this.
-    pub(crate) fn with(before: &History, happening: &Happening) -> History
-        ensures { result.watches ≡ happened before.now.watches happening.now }
+    /// It is told this too.
+    pub(crate) fn push(&mut self, happening: &Happening)
+        ensures { self.new ≡ happened self.old happening.now }
     {
-        History {}
+        self.past.push(Snapshot::of(happening));
     }
 }

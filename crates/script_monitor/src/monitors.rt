@@ -22,9 +22,9 @@ impl Model for ScriptMonitor {
 
     ghost Value = { Watches };
 
-    ghost view = { λ m. m.history.watches };
+    ghost view = { λ m. m.history };
 
-    ghost invariant = { λ m. StandsFor (watch_of m.history.watches) m.monitor };
+    ghost invariant = { λ m. StandsFor (watch_of m.history) m.monitor };
 }
 
 impl ScriptMonitor {
@@ -57,7 +57,7 @@ impl ScriptMonitor {
             interval,
             timeout,
         };
-        self.history = History::with(&self.history, &happening);
+        self.history.push(&happening);
         Ok(())
     }
 
@@ -66,7 +66,7 @@ impl ScriptMonitor {
         ensures { self.new ≡ with_member self.old group.0 host.0 None }
     {
         self.monitor.unwatch(group, host);
-        self.history = History::with(&self.history, &Happening::Unwatched { group, host });
+        self.history.push(&Happening::Unwatched { group, host });
     }
 
     /// Whether a watched member is to be asked: it never was, or its last ask is an interval ago.
@@ -81,7 +81,7 @@ impl ScriptMonitor {
         ensures { self.new ≡ told self.old group.0 host.0 (asked now.0) }
     {
         self.monitor.asked(group, host, now);
-        self.history = History::with(&self.history, &Happening::Asked { group, host, now });
+        self.history.push(&Happening::Asked { group, host, now });
     }
 
     /// A member answered; whether it is watched.
@@ -90,7 +90,7 @@ impl ScriptMonitor {
         ensures watched { result ≡ is_some (member_at self.old group.0 host.0) }
     {
         let is_watched = self.monitor.answered(group, host);
-        self.history = History::with(&self.history, &Happening::Answered { group, host });
+        self.history.push(&Happening::Answered { group, host });
         is_watched
     }
 

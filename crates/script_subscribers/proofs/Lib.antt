@@ -3,4 +3,5 @@ pub mod Changing
 pub mod Counting
 pub mod Judging
 pub mod Finding
+pub mod Placing
 pub mod Keeping

@@ -5,7 +5,7 @@ ghost use Rattle.script_subscribers.specs.Calls.{IsSubscribed, IsPulled, IsJoine
 ghost use Rattle.script_subscribers.specs.Subscribers.{Good, nobody_listens, subscriber_named, told, unsubscribed};
 
 use crate::answers::{Pulled, Subscribed};
-use crate::named::{Named, is_known, leave, sub_of};
+use crate::named::NameFile;
 use fault_notifier::{EVENT_LIMIT, FaultEvent, Filter, FilterFault, Notifier, NotifyFault};
 use ft_base::{Name, NoMemory};
 use std::alloc::Global;
@@ -15,7 +15,7 @@ use std::marker::Model;
 #[derive(Drop)]
 pub struct Subscribers {
     notifier: Notifier,
-    named: Vec<Named>,
+    named: NameFile,
     faults: u32,
 }
 
@@ -25,9 +25,9 @@ impl Model for Subscribers {
 
     ghost Value = { Plain };
 
-    ghost view = { λ s. shown s.notifier s.named.items s.faults };
+    ghost view = { λ s. shown s.notifier s.named.all s.faults };
 
-    ghost invariant = { λ s. IsKept s.notifier s.named.items s.faults };
+    ghost invariant = { λ s. IsKept s.notifier s.named.all s.faults };
 }
 
 /// What one who is connected is answered.
@@ -48,7 +48,7 @@ impl Subscribers {
     {
         Subscribers {
             notifier: Notifier::new(alloc),
-            named: Vec::new(alloc),
+            named: NameFile::new(alloc),
             faults: 0,
         }
     }
@@ -57,14 +57,14 @@ impl Subscribers {
     pub fn is_named(&self, name: &Name) -> bool
         ensures { result ≡ list_any (λ s. bytes_eq s.name name.now) self.now.all }
     {
-        is_known(self.named.as_slice(), name)
+        self.named.has(name)
     }
 
     /// Whether somebody listens by this name.
     pub fn listens(&self, name: &Name) -> bool
         ensures { result ≡ is_some (subscriber_named self.now name.now) }
     {
-        sub_of(self.named.as_slice(), name).is_some()
+        self.named.sub_of(name).is_some()
     }
 
     /// One more subscribes, and is told of the events from now on that its filter lets through. The filter is
@@ -85,11 +85,10 @@ impl Subscribers {
     fn join(&mut self, name: Name, filter: Filter) -> Result<Subscribed, NoMemory>
         ensures { IsJoined self.old name (Good filter) result self.new }
     {
-        self.named.reserve(1)?;
+        self.named.reserve(name)?;
         match self.notifier.connect(filter) {
             Ok(sub) => {
-                let sub = Some(sub);
-                self.named.push(Named { name, sub }).unwrap();
+                self.named.add_reserved(sub);
                 Ok(Subscribed::Done)
             }
             Err(NotifyFault::Full(limit)) => Ok(Subscribed::Full(limit)),
@@ -102,11 +101,11 @@ impl Subscribers {
         ensures listened { result ≡ is_some (subscriber_named self.old name.now) }
         ensures left { self.new ≡ unsubscribed self.old name.now }
     {
-        let Some(sub) = sub_of(self.named.as_slice(), name) else {
+        let Some(sub) = self.named.sub_of(name) else {
             return false;
         };
         match self.notifier.disconnect(sub) {
-            Ok(()) => leave(&mut self.named, name),
+            Ok(()) => self.named.leave(name),
             Err(_) => unreachable!(),
         }
         true
@@ -116,7 +115,7 @@ impl Subscribers {
     pub fn pull(&mut self, name: &Name) -> Result<Pulled, NoMemory>
         ensures { IsPulled self.old name.now result self.new }
     {
-        let Some(sub) = sub_of(self.named.as_slice(), name) else {
+        let Some(sub) = self.named.sub_of(name) else {
             return Ok(Pulled::Unknown);
         };
         answer_of(self.notifier.pull(sub))

@@ -8,9 +8,9 @@ use Rattle.ft_base.specs.declared.numbers.HostNo.{HostNo}
 use Rattle.ft_report.specs.declared.reports.ReportLine.{ReportLine}
 use Rattle.group_model.specs.declared.events.Out.{Out}
 use Rattle.script_world.specs.Sound.{IsOnItsWay}
-use Rattle.script_world.specs.World.{World, with_messages}
+use Rattle.script_world.specs.World.{World, carried, with_messages}
 use Rattle.script_world.specs.declared.messages.Message.{Message}
-use Rattle.world_turns.specs.Sending.{all_carried, carried, sent_line, sent_lines}
+use Rattle.world_turns.specs.Sending.{all_carried, sent_line, sent_lines}
 
 pub join : {A : Type 0} (xs ys zs : List A) → (xs ++ ys) ++ zs ≡ xs ++ (ys ++ zs)
 join [] ys zs = refl

@@ -11,15 +11,11 @@ use Rattle.group_model.specs.declared.events.Inner.{Inner}
 use Rattle.group_model.specs.declared.events.Inner.TheVariants as inners
 use Rattle.group_model.specs.declared.events.Out.{Out}
 use Rattle.script_world.specs.declared.messages.Message.{Message}
-use Rattle.script_world.specs.declared.messages.Message.TheVariants as messages
-use Rattle.script_world.specs.World.{World, counted, with_messages}
+use Rattle.script_world.specs.World.{World, carried, counted, with_messages}
 
 -- a view of the group with this name, as it is printed
 abbrev pub view_line : List ℕ → View → ReportLine
 view_line name view = reports.View name view.version view.members view.primary
-
-abbrev pub carried : GroupId → Out → Message
-carried group out = messages.Carried group out
 
 abbrev pub all_carried : GroupId → List Out → List Message
 all_carried group outs = map (carried group) outs

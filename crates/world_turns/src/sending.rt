@@ -1,10 +1,10 @@
 //! What a group sends becomes messages, whose bytes are counted.
 ghost use Rattle.std.specs.Prelude.{◌≡◌, ◌+◌, ◌++◌, ◌<◌, ◌^◌, [], ◌∷◌, IfOk, OnOk, Some, length, slice_get};
 ghost use Rattle.std.specs.List.{AllByRecursion};
-ghost use Rattle.world_turns.specs.Sending.{all_carried, all_sent, carried, payload, payloads, request_payload, sent_line, sent_lines, view_line};
+ghost use Rattle.world_turns.specs.Sending.{all_carried, all_sent, payload, payloads, request_payload, sent_line, sent_lines, view_line};
 ghost use Rattle.script_groups.specs.Groups.{ScriptGroup as Group};
 ghost use Rattle.script_world.specs.Sound.{IsOnItsWay};
-ghost use Rattle.script_world.specs.World.{at_most_one_past, with_messages};
+ghost use Rattle.script_world.specs.World.{at_most_one_past, carried, with_messages};
 
 use ft_base::{GroupId, HostNo, Name, NoMemory, Request, View};
 use ft_report::{ReportLine, ReportLines};

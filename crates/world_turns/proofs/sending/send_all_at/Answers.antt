@@ -3,7 +3,7 @@ use Rattle.std.specs.List.{AllByRecursion}
 use Rattle.ft_base.specs.declared.numbers.GroupId.{GroupId}
 use Rattle.group_model.specs.declared.events.Out.{Out}
 use Rattle.script_world.specs.Sound.{IsOnItsWay}
-use Rattle.world_turns.specs.Sending.{carried}
+use Rattle.script_world.specs.World.{carried}
 use Rattle.world_turns.proofs.SendingLemmas.{none_printed}
 use Rattle.world_turns.proofs.sending.send_all_at.Goals as goal
 

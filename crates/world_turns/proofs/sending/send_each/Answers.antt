@@ -2,7 +2,7 @@ use Rattle.std.proofs.Common.{◌≡◌, ◌∷◌, ◌++◌, List, [], ap, sym,
 use Rattle.std.specs.List.{AllByRecursion}
 use Rattle.group_model.specs.declared.events.Out.{Out}
 use Rattle.script_world.specs.Sound.{IsOnItsWay}
-use Rattle.world_turns.specs.Sending.{carried}
+use Rattle.script_world.specs.World.{carried}
 use Rattle.world_turns.proofs.SendingLemmas.{join, lines_more, no_lines, none_sent, world_more}
 use Rattle.world_turns.proofs.sending.send_each.Goals as goal
 

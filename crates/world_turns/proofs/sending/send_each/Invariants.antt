@@ -1,8 +1,8 @@
 use Rattle.std.proofs.Common.{◌≡◌, ◌+◌, ◌++◌, length}
 use Rattle.std.specs.List.{AllByRecursion}
 use Rattle.script_world.specs.Sound.{IsOnItsWay}
-use Rattle.script_world.specs.World.{with_messages}
-use Rattle.world_turns.specs.Sending.{all_carried, carried, sent_lines}
+use Rattle.script_world.specs.World.{carried, with_messages}
+use Rattle.world_turns.specs.Sending.{all_carried, sent_lines}
 use Rattle.world_turns.proofs.sending.send_each.Given as goal
 
 -- what was sent so far, and what is left

@@ -1,4 +1,5 @@
-use Rattle.std.proofs.Common.{◌∷◌, ap, sym, subst, ◌∙◌}
+use Rattle.std.proofs.Common.{◌∷◌, [], ◌++◌, ap, sym, subst, ◌∙◌}
+use Rattle.group_model.specs.declared.events.Event.{Event}
 use Rattle.script_groups.specs.Acting.{IsActed, MayCome, poisoned}
 use Rattle.script_groups.specs.Groups.{ScriptGroup, group_of}
 use Rattle.script_groups.specs.Standing.{IsStanding}
@@ -26,7 +27,8 @@ invariant_of-self-2 g c = λ kept.
     let answer = c.act-answer.result in
     let acts = c.act-answer.ensures.acted (group_of before) stands.core_stands (agrees_as before c.args.event core stands answer c.act-answer.new.self c.args.steps.now c.act-answer.new.steps may) in
     let unfailing = c.unfailing_logs_show_no_fault.ensures c.args.event answer core.log c.act-answer.new.self.log c.act-answer.ensures.wrote stands.plan in
-    subst (λ es. IsStanding c.act-answer.new.self (record before { events = es })) (sym c.with-history.ensures)
+    let grown = c.push.ensures ∙ ap (λ (e : Event). before.events ++ e ∷ []) c.of-past.ensures in
+    subst (λ es. IsStanding c.act-answer.new.self (record before { events = es })) (sym grown)
     (stands_on before c.args.event core stands answer c.act-answer.new.self c.args.steps.now c.act-answer.new.steps c.groups_grow.ensures.grow acts (sym c.is_short.ensures ∙ c.if-is_short.false) unfailing)
 
 pub returns : goal.returns
@@ -38,6 +40,7 @@ returns g c =
     let answer = c.act-answer.result in
     let acts = c.act-answer.ensures.acted (group_of before) stands.core_stands (agrees_as before c.args.event core stands answer c.act-answer.new.self c.args.steps.now c.act-answer.new.steps may) in
     let unfailing = c.unfailing_logs_show_no_fault.ensures c.args.event answer core.log c.act-answer.new.self.log c.act-answer.ensures.wrote stands.plan in
-    subst (λ s. IsActed s c.args.event answer (record before { events = c.with-history.result.events }) c.args.steps.now c.act-answer.new.steps) c.self.view_is
-    (subst (λ es. IsActed before c.args.event answer (record before { events = es }) c.args.steps.now c.act-answer.new.steps) (sym c.with-history.ensures)
+    let grown = c.push.ensures ∙ ap (λ (e : Event). before.events ++ e ∷ []) c.of-past.ensures in
+    subst (λ s. IsActed s c.args.event answer (record before { events = c.push.new.self }) c.args.steps.now c.act-answer.new.steps) c.self.view_is
+    (subst (λ es. IsActed before c.args.event answer (record before { events = es }) c.args.steps.now c.act-answer.new.steps) (sym grown)
     (turn_acts before c.args.event core stands answer c.act-answer.new.self c.args.steps.now c.act-answer.new.steps acts (sym c.is_short.ensures ∙ c.if-is_short.false) unfailing))

@@ -18,7 +18,7 @@ invariant_of-self-in-Ok c =
 pub returns-in-Ok-clause-told : goal.returns-in-Ok-clause-told
 returns-in-Ok-clause-told c =
     let kept = c.self.invariant in
-    subst (λ (s : Subscribers). shown c.push.new.self c.self.inside.named.items (c.self.inside.faults + 1) ≡ told s c.args.event) c.self.view_is
+    subst (λ (s : Subscribers). shown c.push.new.self c.self.inside.named.all (c.self.inside.faults + 1) ≡ told s c.args.event) c.self.view_is
     (told_is _ _ _ kept c.args.event c.push.new.self (c.in-Ok.ensures kept.n kept.stands).1 c.if-self-ge-EVENT_LIMIT.false)
 
 pub unreachable-requires : goal.unreachable-requires
@@ -31,7 +31,7 @@ unreachable-requires c =
 pub invariant_of-self-in-Err : goal.invariant_of-self-in-Err
 invariant_of-self-in-Err c =
     let kept = c.self.invariant in
-    subst (λ (q : Picture). IsKept q c.self.inside.named.items c.self.inside.faults)
+    subst (λ (q : Picture). IsKept q c.self.inside.named.all c.self.inside.faults)
     (sym (unpushed kept.n c.args.event c.in-Err.field-0 c.self.inside.notifier c.push.new.self (c.in-Err.ensures kept.n kept.stands))) kept
 
 pub returns-in-Err : goal.returns-in-Err
@@ -39,6 +39,6 @@ returns-in-Err c =
     let kept = c.self.invariant in
     record {
       told = tt;
-      kept = ap (λ (q : Picture). shown q c.self.inside.named.items c.self.inside.faults)
+      kept = ap (λ (q : Picture). shown q c.self.inside.named.all c.self.inside.faults)
           (unpushed kept.n c.args.event c.in-Err.field-0 c.self.inside.notifier c.push.new.self (c.in-Err.ensures kept.n kept.stands)) ∙ c.self.view_is;
     }
