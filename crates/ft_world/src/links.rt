@@ -280,23 +280,29 @@ fn is_here(world: &World, host: HostNo, key: &Bytes) -> bool
     }
 }
 
-// A request comes to the host, which is to reply in this form.
+// The request to which a host replies: its id, its response flags and its form.
+#[derive(Clone, Copy)]
+struct Asker {
+    id: u32,
+    flags: u8,
+    form: Form,
+}
+
+// A request comes to the host.
 fn take_request<L: Ledger>(
     world: &mut World,
     host: HostNo,
-    id: u32,
-    flags: u8,
+    asker: Asker,
     key: &Bytes,
     asked: Asked,
-    form: Form,
     report: &mut ReportLines,
     steps: &mut Steps<L>,
 ) -> Result<(), NoMemory>
     requires host { host.0 < HOST_LIMIT }
-    requires known { form.minor < 3 }
+    requires known { asker.form.minor < 3 }
     requires short { IsShortAsked asked }
     requires kept { IsKeptWorld world.old }
-    ensures did { Changes (λ e. called (world_port host.0) e form (Calling.Ask id flags key.now asked)) result world.old world.new report.old report.new steps.old steps.new }
+    ensures did { Changes (λ e. called (world_port host.0) e asker.form (Calling.Ask asker.id asker.flags key.now asked)) result world.old world.new report.old report.new steps.old steps.new }
     ensures kept { OnOk result (IsKeptWorld world.new) }
 {
     let alloc = world.alloc();
@@ -304,7 +310,7 @@ fn take_request<L: Ledger>(
         Ok(said) => said,
         Err(NoMemory) => return Err(NoMemory),
     };
-    match reply(alloc, id, flags, form, &answer) {
+    match reply(alloc, asker.id, asker.flags, asker.form, &answer) {
         Ok(bytes) => push_answer(bytes, orders, report),
         Err(NoMemory) => Err(NoMemory),
     }
@@ -333,7 +339,10 @@ fn take_call<L: Ledger>(
             flags,
             key,
             asked,
-        } => take_request(world, host, id, flags, &key, asked, form, report, steps),
+        } => {
+            let asker = Asker { id, flags, form };
+            take_request(world, host, asker, &key, asked, report, steps)
+        }
         Calling::Locate { id, key } => {
             let here = is_here(world, host, &key);
             let bytes = locate_reply_bytes(alloc, id, form, here)?;
