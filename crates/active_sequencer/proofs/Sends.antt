@@ -19,15 +19,18 @@ use Rattle.group_model.specs.declared.events.GroupAnswer.TheVariants.{Reply}
 use Rattle.group_model.specs.declared.events.Inner.{Inner}
 use Rattle.group_model.specs.declared.events.Inner.TheVariants as inners
 use Rattle.group_model.specs.declared.events.Out.{Out}
-use Rattle.group_model.specs.Admissions.{Admission, Expired, Same, Other, Full, New, admission}
+use Rattle.ft_base.specs.Admissions.{admission}
+use Rattle.ft_base.specs.declared.admissions.Admission.{Admission}
+use Rattle.ft_base.specs.declared.admissions.Admission.TheVariants.{Expired, Same, Other, Full, New}
 use Rattle.group_model.specs.Plain.{Common, Host}
 use Rattle.group_model.specs.Serving.{accepted, admitted, served, orders}
-use Rattle.group_model.specs.Views.{host_no, is_passive, sent_to, to_others, without}
+use Rattle.ft_base.specs.Views.{is_passive}
+use Rattle.group_model.specs.Views.{host_no, sent_to, to_others, without}
 use Rattle.group_stands.specs.Telling.{LogsTell, Tells}
 use Rattle.passive_dispatch.specs.Served.{Seen, IsServed, shows_fault}
-use Rattle.passive_dispatch.specs.declared.serving.Served.TheVariants as serves
-use Rattle.active_sequencer.specs.Sequences.{CanSequence, IsSequenced, sent_with}
-use Rattle.active_sequencer.specs.declared.sequencing.Sequenced.TheVariants.{Done}
+use Rattle.passive_dispatch.specs.declared.serving.Replied.{Replied}
+use Rattle.passive_dispatch.specs.declared.serving.Served.TheVariants.{Done}
+use Rattle.active_sequencer.specs.Sequences.{CanSequence, IsSequenced, sending, sent_with}
 
 -- ---- to each other member
 
@@ -98,18 +101,20 @@ orders_are c log host request tells active =
     ∙ ap (λ (n : ℕ). to_others c host (inners.Order n request)) tells.end
     ∙ ap (λ (s : Style). cond (is_passive s) [] (to_others c host (inners.Order (length c.journal) request))) (sym active)
 
-pub sequenced : LogsTell → (machines : ℕ → Machine) (c : Common) (h : Host) (host version clock : ℕ) (request : Request) (stop : Stop) (d : Decision) (a : Option Answer) (made out : List Out) (before now : Seen) →
-    CanSequence machines c h.place version request before → IsServed machines c h host clock request stop (serves.Done d a) before now →
-    made ≡ sent_to (without host before.log.newest.members) (inners.Order (length_of before.log) request) → out ≡ sent_with d a made →
-    IsSequenced machines c h host clock request stop (Done d a out) before now
-sequenced law machines c h host version clock request stop d a made out before now can is makes sends =
+pub sequenced : LogsTell → (machines : ℕ → Machine) (c : Common) (h : Host) (host version clock : ℕ) (request : Request) (stop : Stop) (r : Replied) (made : List Out) (before now : Seen) →
+    CanSequence machines c h.place version request before → IsServed machines c h host clock request stop (Done r) before now →
+    made ≡ sent_to (without host before.log.newest.members) (inners.Order (length_of before.log) request) →
+    IsSequenced machines c h host clock request stop (Done (sending (sent_with r.decision r.answer made) r)) before now
+sequenced law machines c h host version clock request stop r made before now can is makes =
     let m = machines c.kind in
+    let d = r.decision in
+    let a = r.answer in
     let moment = max clock c.time in
     let of = orders c host (length c.journal) request in
     let same : made ≡ of = makes ∙ orders_are c before.log host request (law machines c before.log can.can_serve.log) can.active in
     let sent = told_sends (served m c h host clock request stop (shows_fault d)).answer d a is.out of
     (admitted_sends m c h host moment request stop (shows_fault d) (admission c.journal moment request)) is.told in
-    let outs : is.out ≡ out = sent ∙ sym (sends ∙ ap (sent_with d a) same) in
+    let outs : is.out ≡ sent_with d a made = sent ∙ sym (ap (sent_with d a) same) in
     record {
       log = is.log;
       replica = is.replica;

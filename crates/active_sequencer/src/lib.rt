@@ -10,4 +10,4 @@ mod sequencing;
 
 pub use holding::Holdback;
 pub use ordering::{Ordered, order};
-pub use sequencing::{Sequenced, serve};
+pub use sequencing::serve;

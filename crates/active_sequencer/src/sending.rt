@@ -2,14 +2,14 @@
 ghost use Rattle.std.specs.Prelude.{◌≡◌, ◌∷◌, ◌++◌, [], nat_eq, if◌then◌else◌, IfOk, OnOk};
 ghost use Rattle.message_log.specs.Picture.{length_of};
 ghost use Rattle.group_model.specs.Views.{without, sent_to, host_no};
-ghost use Rattle.active_sequencer.specs.Sequences.{sent_with};
+ghost use Rattle.active_sequencer.specs.Sequences.{sending, sent_with};
 
 use ft_base::{Decision, HostNo, NoMemory, Request};
 use ft_outside::Keeper;
 use group_model::{Inner, Out, OutList};
 use message_log::Log;
+use passive_dispatch::Replied;
 use std::alloc::Global;
-use sys_faults::Answer;
 
 /// Adds the order of an entry to one member, unless that is the sender.
 fn send_to(
@@ -66,18 +66,14 @@ pub(crate) fn next_orders<K: Keeper>(
     send_to_others(alloc, members, host, log.length(), request)
 }
 
-/// What is sent with a decision: orders go out where the entry was appended and its host didn't stop. It
-/// takes no memory.
-pub(crate) fn kept_with(
-    alloc: Global,
-    decision: Decision,
-    answer: &Option<Answer>,
-    orders: OutList,
-) -> OutList
-    ensures { result ≡ sent_with decision answer.now orders }
+/// What a request came to, with what is sent: orders go out where the entry was appended and its host
+/// didn't stop. It takes no memory.
+pub(crate) fn with_orders(alloc: Global, replied: Replied, orders: OutList) -> Replied
+    ensures { result ≡ sending (sent_with replied.decision replied.answer orders) replied }
 {
-    match (decision, answer) {
+    let out = match (replied.decision, &replied.answer) {
         (Decision::Append(_), Some(_)) => orders,
         _ => OutList::new(alloc),
-    }
+    };
+    Replied { out, ..replied }
 }

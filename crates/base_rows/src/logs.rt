@@ -4,7 +4,7 @@ ghost use Rattle.std.specs.Prelude.{◌≡◌, [], ◌∷◌, Some};
 use crate::openings;
 use crate::requests::request_of;
 use anyhow::{Context, Result, anyhow, bail};
-use ft_base::{HostNo, Members, Outcome, Request, Tick, Version, View};
+use ft_base::{Admission, HostNo, Members, Outcome, Request, Tick, Version, View};
 use ft_outside::{Keeper, MemKeeper};
 use message_log::{Admit, Appended, Log, LogFault};
 use octet_words::{first_word, no_memory};
@@ -26,6 +26,7 @@ pub fn answer(rt: &HostRuntime, logs: &mut Logs, words: &str) -> Result<()> {
         "open" => openings::open(rt, logs),
         "part" => openings::part(rt, closed(logs)?, words),
         "change" => openings::change(rt, closed(logs)?, words),
+        "record" => openings::record(rt, closed(logs)?, words),
         _ => {
             let log = logs.log.as_mut().context("no log")?;
             act(rt, log, what, words)
@@ -102,7 +103,7 @@ fn appended(
     let version = log.newest().version;
     log.reserve(alloc, version, clock, &request)
         .map_err(no_memory)?;
-    if log.admit(version, clock, &request) != Admit::New {
+    if log.admit(version, clock, &request) != Admit::Admission(Admission::New) {
         return Ok(None);
     }
     Ok(Some(log.append_reserved(version, clock, request)))
@@ -152,17 +153,24 @@ fn checkpoint(rt: &HostRuntime, log: &mut Log<MemKeeper>, words: &str) -> Result
     print_done(rt, done, "a checkpoint")
 }
 
+fn print_admission(rt: &HostRuntime, says: Admission) -> Result<()> {
+    match says {
+        Admission::Expired(expiration) => println!(rt; "    expired at {}", expiration.0)?,
+        Admission::Same(position) => println!(rt; "    a repeat of entry {position}")?,
+        Admission::Other(position) => println!(rt; "    other than entry {position}")?,
+        Admission::Full => println!(rt; "    full")?,
+        Admission::New => println!(rt; "    new")?,
+    }
+    Ok(())
+}
+
 // `VERSION CLOCK REQUEST`: what a request is to the log
 fn admit(rt: &HostRuntime, log: &Log<MemKeeper>, words: &str) -> Result<()> {
     let (version, words) = first_word(words);
     let (clock, request) = clocked(rt.alloc(), words)?;
     match log.admit(Version(version.parse::<u32>()?), clock, &request) {
         Admit::Deposed(version) => println!(rt; "    deposed by version {}", version.0)?,
-        Admit::Expired(now) => println!(rt; "    expired by {}", now.0)?,
-        Admit::Same(position) => println!(rt; "    a repeat of entry {position}")?,
-        Admit::Other(position) => println!(rt; "    other than entry {position}")?,
-        Admit::Full => println!(rt; "    full")?,
-        Admit::New => println!(rt; "    new")?,
+        Admit::Admission(says) => print_admission(rt, says)?,
     }
     Ok(())
 }

@@ -91,6 +91,15 @@ pub fn change(rt: &HostRuntime, keeper: &MemKeeper, words: &str) -> Result<()> {
     Ok(())
 }
 
+/// `log record NUMBER`: the bytes of a record of the closed log
+pub fn record(rt: &HostRuntime, keeper: &MemKeeper, words: &str) -> Result<()> {
+    match keeper.read(words.parse::<u64>()?) {
+        Some(record) => println!(rt; "    {}", hex::encode(rt.alloc(), record.bytes())?)?,
+        None => println!(rt; "    no such record")?,
+    }
+    Ok(())
+}
+
 /// `log show`
 pub fn show(rt: &HostRuntime, log: &Log<MemKeeper>) -> Result<()> {
     println!(rt;

@@ -19,7 +19,7 @@ use Rattle.group_model.specs.Events.{after_event, shows_fault}
 use Rattle.group_model.specs.Plain.{Group}
 use Rattle.group_core.specs.Acting.{IsActed}
 use Rattle.group_core.specs.Cores.{CorePicture, Stands}
-use Rattle.bench_core.specs.Timing.{IsSome, MayCome}
+use Rattle.group_core.specs.Trying.{IsSome, MayCome}
 
 module _ (machines : ℕ → Machine) where
   pub goes_on : (g : Group) (e : Event) (answer : GroupAnswer) (core : CorePicture) (before now : ℕ) → IsActed machines g e answer core before now → IsSome machines core

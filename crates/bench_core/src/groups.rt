@@ -1,7 +1,7 @@
 //! Groups that are asked many times.
 ghost use Rattle.std.specs.Prelude.{◌≡◌, ◌<◌, ◌≤◌, ◌∷◌, [], length, IfOk, OnOk};
 ghost use Rattle.std.specs.List.{AllByRecursion};
-ghost use Rattle.bench_core.specs.Timing.{IsSome, MayCome};
+ghost use Rattle.group_core.specs.Trying.{IsSome, MayCome};
 
 use anyhow::{Result, anyhow};
 use cdr_codec::{Order, Raw};

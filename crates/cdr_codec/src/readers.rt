@@ -9,6 +9,7 @@ ghost use Rattle.cdr_codec.specs.Calls.{Reads};
 use crate::digits::{number_of_u8, number_of_u16, number_of_u32, number_of_u64};
 use crate::faults::{CdrFault, CdrWhy};
 use crate::orders::Order;
+use ft_base::first_zero;
 use std::marker::Model;
 
 // A fault that is handed on whole, as by `?`, is moved as eight bytes. Beside a number of 64 bits, or a part of
@@ -43,13 +44,6 @@ fn bool_of_octet(octet: u8) -> Option<bool>
         1 => Some(true),
         _ => None,
     }
-}
-
-fn first_zero(octets: &[u8]) -> Option<usize>
-    ensures place { result ≡ zero_place octets.now }
-    ensures within { IfSome result (λ place. place < length octets.now) }
-{
-    octets.iter().position(|octet| *octet == 0)
 }
 
 #[tactic(auto, using(crate::proofs::Strings::zero_place_before))]

@@ -1,6 +1,6 @@
 -- The rows on views of a log are those of its group.
 use Rattle.std.proofs.Common.{◌≡◌, ℕ, ◌≤◌, Bool, true, false, List, [], ◌∷◌, length, refl, sym, ap, subst, ◌∙◌, ltb-false, arith}
-use Rattle.std.specs.Prelude.{Option, Some, None, Result, Ok, Err, IfOk, if◌then◌else◌}
+use Rattle.std.specs.Prelude.{Option, Some, None, IsSome, Result, Ok, Err, IfOk, if◌then◌else◌}
 use Rattle.ft_base.specs.Machine.{Machine, Fits}
 use Rattle.ft_base.specs.declared.limits.TheConstants.{ARGUMENTS_LIMIT}
 use Rattle.ft_base.specs.declared.requests.Request.{Request}
@@ -8,7 +8,7 @@ use Rattle.ft_base.specs.declared.views.Style.{Style}
 use Rattle.ft_base.specs.declared.views.View.{View}
 use Rattle.message_log.specs.Picture.{Picture as LogPicture}
 use Rattle.message_log.specs.Picture as pictures
-use Rattle.group_model.specs.Asking.{asked_version}
+use Rattle.group_model.specs.Asking.{asked_version, signature_asked}
 use Rattle.group_model.specs.Decisions.{Row, first_row, view_rows, refused_by_view}
 use Rattle.group_model.specs.Plain.{Common}
 use Rattle.group_model.specs.Views.{newest, newest_view, view_at}
@@ -16,7 +16,7 @@ use Rattle.group_model.specs.declared.asking.Asked.{Asked}
 use Rattle.group_model.specs.declared.refusals.Refusal.{Refusal}
 use Rattle.group_stands.specs.Telling.{LogsTell}
 use Rattle.group_stands.specs.Viewing.{LogsShowViews}
-use Rattle.decision_table.specs.Passing.{told_of, IsAsked, IfRequest, MayBeServed}
+use Rattle.decision_table.specs.Passing.{told_of, IsAsked, IfNoMemory, IfRequest, IfUnread, MayBeServed, TakesMemory}
 use Rattle.decision_table.specs.declared.arguments.Unpassed.{Unpassed}
 use Rattle.decision_table.specs.declared.arguments.Unpassed.TheVariants as unpassed
 
@@ -42,6 +42,11 @@ told_request : (P : Request → Type 0) (r : Result Request Unpassed) → IfOk r
 told_request P (Ok request) is = is
 told_request P (Err (unpassed.Refused refusal)) is = tt
 told_request P (Err unpassed.NoMemory) is = tt
+
+told_unread : (P Q : Type 0) (r : Result Request Unpassed) → (P → Q) → IfUnread r P → IfNoMemory (told_of r) Q
+told_unread P Q (Ok request) so is = tt
+told_unread P Q (Err (unpassed.Refused refusal)) so is = tt
+told_unread P Q (Err unpassed.NoMemory) so is = so is
 
 all_of : (m : Machine) (c : Common) (known : ℕ) (r : Result Request Unpassed) → known ≡ newest c → IfOk r (Fits m) →
     IfOk r (λ request. length request.args ≤ ARGUMENTS_LIMIT) → IfOk r (MayBeServed m c known)
@@ -78,3 +83,9 @@ module _ (shown : LogsShowViews) (tell : LogsTell) (machines : ℕ → Machine) 
     may_be_served r none fits short =
         told_request (MayBeServed (machines c.kind) c known) r
         (all_of (machines c.kind) c known r (knows none) (subst (λ (k : ℕ). IfOk r (Fits (machines k))) is.kind fits) short)
+
+    pub takes_memory : (r : Result Request Unpassed) → o ≡ None → IfUnread r (IsSome (signature_asked (machines kind) asked.op)) →
+        IfNoMemory (told_of r) (TakesMemory (machines c.kind) c host known asked)
+    takes_memory r none unread =
+        told_unread (IsSome (signature_asked (machines kind) asked.op)) (TakesMemory (machines c.kind) c host known asked) r
+        (λ named. record { no_row = sym rows_are ∙ sym rows ∙ none; named = subst (λ (k : ℕ). IsSome (signature_asked (machines k) asked.op)) is.kind named }) unread

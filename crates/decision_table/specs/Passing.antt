@@ -1,12 +1,15 @@
 -- What came of what was asked, against the plain group's decision table.
-use Rattle.std.specs.Prelude.{◌≡◌, ℕ, ◌<◌, ◌≤◌, length, Result, Ok, Err}
+use Rattle.std.specs.Prelude.{◌≡◌, ℕ, ◌<◌, ◌≤◌, length, None, IsSome, Result, Ok, Err}
 use Rattle.ft_base.specs.Machine.{Machine, Fits}
 use Rattle.ft_base.specs.declared.limits.TheConstants.{ARGUMENTS_LIMIT}
 use Rattle.ft_base.specs.declared.requests.Request.{Request}
 use Rattle.ft_base.specs.declared.views.Style.{Style}
 use Rattle.message_log.specs.Picture.{Picture as LogPicture}
+use Rattle.group_model.specs.Asking.{asked_version, signature_asked}
+use Rattle.group_model.specs.Decisions.{refused_by_view}
 use Rattle.group_model.specs.Plain.{Common}
 use Rattle.group_model.specs.Views.{newest}
+use Rattle.group_model.specs.declared.asking.Asked.{Asked}
 use Rattle.group_model.specs.declared.refusals.Refusal.{Refusal}
 use Rattle.group_stands.specs.Stands.{LogStands}
 use Rattle.decision_table.specs.declared.arguments.Unpassed.{Unpassed}
@@ -40,6 +43,17 @@ pub record MayBeServed (m : Machine) (c : Common) (known : ℕ) (request : Reque
   pub fits : Fits m request
   pub short : length request.args ≤ ARGUMENTS_LIMIT
 
+-- memory was wanted, so this holds
+abbrev pub IfNoMemory : Passed → Type 0 → Type 0
+IfNoMemory (passed.Request request) P = Unit {0}
+IfNoMemory (passed.Refused refusal) P = Unit {0}
+IfNoMemory passed.NoMemory P = P
+
+-- Memory is taken for the arguments alone: no row on views stands, and the servant has the operation.
+pub record TakesMemory (m : Machine) (c : Common) (host known : ℕ) (asked : Asked) : Type 0 where
+  pub no_row : refused_by_view c host (asked_version known asked.version) known ≡ None
+  pub named : IsSome (signature_asked m asked.op)
+
 -- ---- inside
 
 -- a call answered this, or that there is no memory
@@ -47,6 +61,11 @@ abbrev pub Comes : {X : Type 0} → Result X Unpassed → Result X Refusal → T
 Comes (Ok x) wanted = wanted ≡ Ok x
 Comes (Err (unpassed.Refused refusal)) wanted = wanted ≡ Err refusal
 Comes (Err unpassed.NoMemory) wanted = Unit {0}
+
+abbrev pub IfUnread : {X : Type 0} → Result X Unpassed → Type 0 → Type 0
+IfUnread (Ok x) P = Unit {0}
+IfUnread (Err (unpassed.Refused refusal)) P = Unit {0}
+IfUnread (Err unpassed.NoMemory) P = P
 
 abbrev pub told_of : Result Request Unpassed → Passed
 told_of (Ok request) = passed.Request request

@@ -1,10 +1,10 @@
 //! The rows that speak of the request itself.
-ghost use Rattle.std.specs.Prelude.{◌≡◌, ◌+◌, ◌<◌, ◌≤◌, ◌^◌, length, Some, IfOk};
+ghost use Rattle.std.specs.Prelude.{◌≡◌, ◌+◌, ◌<◌, ◌≤◌, ◌^◌, length, Some, IsSome, IfOk};
 ghost use Rattle.ft_base.specs.Machine.{Fits, FitsAs};
 ghost use Rattle.ft_base.specs.declared.limits.TheConstants.{ARGUMENTS_LIMIT};
-ghost use Rattle.group_model.specs.Asking.{args_read};
+ghost use Rattle.group_model.specs.Asking.{args_read, signature_asked};
 ghost use Rattle.group_model.specs.Decisions.{args_for, args_within, no_operation, request_named, unless_long};
-ghost use Rattle.decision_table.specs.Passing.{Comes};
+ghost use Rattle.decision_table.specs.Passing.{Comes, IfUnread};
 
 use crate::views::refused;
 use cdr_codec::{ArgsFault, Raw, args_of};
@@ -26,16 +26,17 @@ fn no_operation(known: Version) -> Unpassed
     Unpassed::Refused(refused(Decision::BadOperation, SysKind::BadOperation, 1, known))
 }
 
-fn unless_long(known: Version, args: Bytes) -> Result<Bytes, Unpassed>
+/// Arguments that are short enough. It takes no memory.
+fn unless_long(known: Version, args: Bytes) -> Result<Bytes, Refusal>
     requires { length args < 2 ^ 32 }
-    ensures args { Comes result (unless_long known.0 args) }
+    ensures args { result ≡ unless_long known.0 args }
     ensures same { IfOk result (λ short. short ≡ args) }
     ensures short { IfOk result (λ short. length short ≤ ARGUMENTS_LIMIT) }
 {
     let count = args.bytes().len();
     if count > ARGUMENTS_LIMIT {
         let long = Decision::Long(count as u32);
-        return Err(Unpassed::Refused(refused(long, SysKind::ImpLimit, 1, known)));
+        return Err(refused(long, SysKind::ImpLimit, 1, known));
     }
     Ok(args)
 }
@@ -52,7 +53,10 @@ fn args_within(
     ensures short { IfOk result (λ args. length args ≤ ARGUMENTS_LIMIT) }
 {
     match args_of(alloc, body, signature) {
-        Ok(args) => unless_long(known, args),
+        Ok(args) => match unless_long(known, args) {
+            Ok(short) => Ok(short),
+            Err(long) => Err(Unpassed::Refused(long)),
+        },
         Err(ArgsFault::Bad(place)) => {
             let marshal = Decision::Marshal(place);
             Err(Unpassed::Refused(refused(marshal, SysKind::Marshal, 1, known)))
@@ -69,6 +73,7 @@ fn args_for(
 ) -> Result<Bytes, Unpassed>
     requires { body.now.align + length body.now.bytes + 8 < 2 ^ 32 }
     ensures args { Comes result (args_for known.0 signature body.now) }
+    ensures unread { IfUnread result (IsSome signature) }
     ensures fits { IfOk result (FitsAs signature) }
     ensures short { IfOk result (λ args. length args ≤ ARGUMENTS_LIMIT) }
 {
@@ -87,6 +92,7 @@ pub(crate) fn request_named<S: Servant>(
 ) -> Result<Request, Unpassed>
     requires { asked.body.align + length asked.body.bytes + 8 < 2 ^ 32 }
     ensures request { Comes result (request_named (S.machine (S.kind servant.now)) known.0 asked asked.op) }
+    ensures unread { IfUnread result (IsSome (signature_asked (S.machine (S.kind servant.now)) asked.op)) }
     ensures fits { IfOk result (Fits (S.machine (S.kind servant.now))) }
     ensures short { IfOk result (λ request. length request.args ≤ ARGUMENTS_LIMIT) }
 {

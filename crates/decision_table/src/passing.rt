@@ -3,7 +3,7 @@ ghost use Rattle.message_log.specs.Picture.{view_at};
 ghost use Rattle.group_model.specs.Decisions.{request_in};
 ghost use Rattle.group_model.specs.Plain.{Common};
 ghost use Rattle.ft_base.specs.declared.views.View.{View as AView};
-ghost use Rattle.decision_table.specs.Passing.{told_of, IsAsked, Passes, IfRequest, MayBeServed};
+ghost use Rattle.decision_table.specs.Passing.{told_of, IsAsked, Passes, IfNoMemory, IfRequest, MayBeServed, TakesMemory};
 
 use crate::arguments::{Unpassed, request_named};
 use crate::views::{asked_version, refused_by_view};
@@ -63,6 +63,8 @@ pub fn pass<S: Servant, K: Keeper>(
         Passes (request_in (S.machine c.kind) c host.0 known.0 asked) result }
     ensures served { (c : Common) → IsAsked S.machine c log.now style (S.kind servant.now) known.0 →
         IfRequest result (MayBeServed (S.machine c.kind) c known.0) }
+    ensures unread { (c : Common) → IsAsked S.machine c log.now style (S.kind servant.now) known.0 →
+        IfNoMemory result (TakesMemory (S.machine c.kind) c host.0 known.0 asked) }
 {
     logs_tell();
     views_are_shown();

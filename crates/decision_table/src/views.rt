@@ -2,9 +2,8 @@
 ghost use Rattle.std.specs.Prelude.{◌≡◌, ◌<◌, ◌≤◌};
 ghost use Rattle.group_model.specs.Asking.{asked_version};
 ghost use Rattle.group_model.specs.Decisions.{first_row, known_then, refusal, refused_as, view_rows};
-ghost use Rattle.group_model.specs.Views.{is_empty, is_passive, is_primary};
 
-use ft_base::{Decision, HostNo, Members, Style, Version, View};
+use ft_base::{Decision, HostNo, Style, Version, View};
 use group_model::Refusal;
 use sys_faults::{Answer, Completed, SysFault, SysKind};
 
@@ -61,30 +60,6 @@ fn sent_on(decision: Decision, answer: Answer, known: Version) -> Refusal
     }
 }
 
-fn is_empty(members: &Members) -> bool
-    ensures { result ≡ is_empty members.now }
-{
-    members.len() == 0
-}
-
-fn is_passive(style: Style) -> bool
-    ensures { result ≡ is_passive style }
-{
-    match style {
-        Style::Cold | Style::Warm => true,
-        Style::Active => false,
-    }
-}
-
-fn is_primary(host: HostNo, primary: Option<HostNo>) -> bool
-    ensures { result ≡ is_primary host.0 primary }
-{
-    match primary {
-        None => false,
-        Some(primary) => primary.0 == host.0,
-    }
-}
-
 /// The row on views that refuses a request at a host, of which it asks for a version: the host knows
 /// this version, whose view is `view`; `last` is the newest view.
 pub(crate) fn refused_by_view(
@@ -105,7 +80,7 @@ pub(crate) fn refused_by_view(
         };
         return Some(refused(newer, SysKind::InvObjref, 1, known));
     }
-    if is_empty(&view.members) {
+    if view.members.is_empty() {
         return Some(refused(Decision::Empty(known), SysKind::Transient, 1, known));
     }
     if asked.0 < known.0 {
@@ -115,13 +90,13 @@ pub(crate) fn refused_by_view(
     if !view.members.has(host) {
         return Some(refused(Decision::Stranger(known), SysKind::ObjectNotExist, 2, known));
     }
-    if is_passive(style) && !is_primary(host, view.primary) {
+    if style.is_passive() && !view.is_led_by(host) {
         return Some(sent_on(Decision::Backup(known), Answer::Forward(known), known));
     }
     if known.0 >= newest.0 {
         return None;
     }
-    if is_empty(&last.members) {
+    if last.members.is_empty() {
         return Some(refused(Decision::Empty(newest), SysKind::Transient, 1, newest));
     }
     let deposed = Decision::Deposed { known, newest };

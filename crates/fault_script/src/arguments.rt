@@ -1,6 +1,5 @@
 ghost use Rattle.std.specs.Prelude.{◌≡◌, ◌^◌, ◌<◌, length, Some, IfOk, IfSome};
 ghost use Rattle.ft_base.specs.Canonical.{one_of, IsCanonical};
-ghost use Rattle.ft_base.specs.Text.{zero_place};
 ghost use Rattle.fault_script.specs.Faults.{IsAnswer};
 ghost use Rattle.fault_script.specs.Arguments.{argument, argument_from, arguments, parameters, spelled_arguments, call_words_from, call_words_of, IsFound, octets_of};
 
@@ -9,7 +8,7 @@ use crate::lines::{LineFault, Words};
 use crate::numerals::{read_i64, read_u32};
 use crate::options::read_options;
 use cdr_codec::canonical;
-use ft_base::{Bytes, NoMemory, Par, Retention, Signature, Tick, Value};
+use ft_base::{Bytes, NoMemory, Par, Retention, Signature, Tick, Value, first_zero};
 use std::alloc::Global;
 
 /// The most bytes that a length field counts, a text's NUL among them.
@@ -24,12 +23,6 @@ pub struct CallWords {
     pub expiration: Option<Tick>,
     /// Whether the request carries the version of the group's reference.
     pub versioned: bool,
-}
-
-fn first_zero(text: &[u8]) -> Option<usize>
-    ensures { result ≡ zero_place text.now }
-{
-    text.iter().position(|byte| *byte == 0)
 }
 
 /// Octets: `-` for none, else hexadecimal.

@@ -61,7 +61,7 @@ machine_of c = record {
 }
 
 -- What a kind of servant owes. `Leads x y` says how the value y may come from x by requests.
-pub record IsCoding {X : Type 0} (c : Coding X) : Type 1 where
+pub record IsCoding {X : Type 0} (c : Coding X) (Leads : X → X → Type 0) : Type 0 where
   pub opens : c.valid c.opening ≡ true
   -- a value's state bytes say that value, and are few
   pub reads_back : (x : X) → c.valid x ≡ true → c.read (c.spelled x) ≡ Some x
@@ -73,7 +73,6 @@ pub record IsCoding {X : Type 0} (c : Coding X) : Type 1 where
   -- an update leaves a value, and one to a later value leads there
   pub update_short : (x y : X) → c.valid x ≡ true → c.valid y ≡ true → length (c.delta x y) + 8 < 2 ^ 32
   pub update_stays : (x y : X) (u : List ℕ) → c.valid x ≡ true → c.applied x u ≡ Some y → c.valid y ≡ true
-  pub Leads : X → X → Type 0
   pub leads_itself : (x : X) → c.valid x ≡ true → Leads x x
   pub leads_on : (x y : X) (q : Request) → c.valid x ≡ true → c.valid y ≡ true → FitsAs (c.signature q.op) q.args
       → Leads x y → Leads x (c.step y q).0

@@ -80,7 +80,7 @@ module _ {X : Type 0} (c : Coding X) where
       ∙ ap (λ b. if b && bytes_eq (c.spelled x) (c.spelled x) then Some x else None) h
       ∙ ap (λ b. if b then Some x else None) same
 
-module _ {X : Type 0} {c : Coding X} (laws : IsCoding c) where
+module _ {X : Type 0} {c : Coding X} {Leads : X → X → Type 0} (laws : IsCoding c Leads) where
   -- a value's state bytes say that value
   pub said_again : (x : X) → c.valid x ≡ true → value_in c (c.spelled x) ≡ Some x
   said_again x h = said_where c x h (laws.reads_back x h)
@@ -167,9 +167,9 @@ module _ {X : Type 0} {c : Coding X} (laws : IsCoding c) where
     value : X
     valid : c.valid value ≡ true
     is : t ≡ c.spelled value
-    leads : laws.Leads x value
+    leads : Leads x value
 
-  reaches : (x y : X) (es : List Entry) → c.valid x ≡ true → c.valid y ≡ true → laws.Leads x y → AllFit (machine_of c) es
+  reaches : (x y : X) (es : List Entry) → c.valid x ≡ true → c.valid y ≡ true → Leads x y → AllFit (machine_of c) es
       → Reaches x (after (machine_of c) (c.spelled y) es)
   unfolding after machine_of value_in state_of
   reaches x y [] h k leads fit = record { value = y; valid = k; is = refl; leads = leads }
@@ -177,7 +177,7 @@ module _ {X : Type 0} {c : Coding X} (laws : IsCoding c) where
       subst (λ (z : X). Reaches x (after (machine_of c) (c.spelled (c.step z e.request).0) es)) (sym (value_again y k))
       (reaches x (c.step y e.request).0 es h (laws.stays y e.request k fit.0) (laws.leads_on x y e.request h k fit.0 leads) fit.1)
 
-  updates_from : (x y : X) → c.valid x ≡ true → c.valid y ≡ true → laws.Leads x y
+  updates_from : (x y : X) → c.valid x ≡ true → c.valid y ≡ true → Leads x y
       → (machine_of c).applied (c.spelled x) ((machine_of c).delta (c.spelled x) (c.spelled y)) ≡ Some (c.spelled y)
   unfolding machine_of value_in state_of
   updates_from x y h k leads =

@@ -36,11 +36,20 @@ replies machine state (entry ∷ entries) =
 abbrev pub AllFit : Machine → List Entry → Type 0
 AllFit machine journal = AllByRecursion (λ entry. Fits machine entry.request) journal
 
--- an entry with a key of this client and retention id whose expiration is still to come
+-- a key of this client and retention id
+abbrev pub is_call : Key → Option Key → Bool
+is_call key None = false
+is_call key (Some other) = bytes_eq key.client other.client && int_eq key.retention.0 other.retention.0
+
+-- one whose expiration is still to come
+abbrev pub is_unexpired : ℕ → Option Key → Bool
+is_unexpired now None = false
+is_unexpired now (Some key) = nat_lt now key.expiration.0
+
+-- both
 abbrev pub is_held_by : ℕ → Key → Option Key → Bool
 is_held_by now key None = false
-is_held_by now key (Some other) =
-    (bytes_eq key.client other.client && int_eq key.retention.0 other.retention.0) && nat_lt now other.expiration.0
+is_held_by now key (Some other) = is_call key (Some other) && is_unexpired now (Some other)
 
 abbrev pub is_held : ℕ → Key → Entry → Bool
 is_held now key entry = is_held_by now key entry.request.key

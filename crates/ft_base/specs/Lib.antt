@@ -6,6 +6,7 @@ pub mod Views
 pub mod Canonical
 pub mod Machine
 pub mod Journal
+pub mod Admissions
 pub mod Servants
 pub mod Laws
 pub mod Coding

@@ -3,6 +3,7 @@ use Rattle.std.specs.Prelude.{ℕ, ◌≤◌, Bool, List, ◌++◌, length, Opti
 use Rattle.ft_base.specs.Text.{IsName}
 use Rattle.ft_base.specs.Canonical.{IsCanonical, one_of}
 use Rattle.ft_base.specs.declared.limits.TheConstants.{RESULT_LIMIT}
+use Rattle.ft_base.specs.declared.requests.Par.{Par}
 use Rattle.ft_base.specs.declared.requests.Request.{Request}
 use Rattle.ft_base.specs.declared.requests.Outcome.{Outcome}
 use Rattle.ft_base.specs.declared.requests.Outcome.TheVariants.{Value, User}
@@ -25,6 +26,11 @@ pub record Machine : Type 0 where
 abbrev pub FitsAs : Option Signature → List ℕ → Type 0
 FitsAs None args = ⊥
 FitsAs (Some signature) args = IsCanonical (one_of signature.first ++ one_of signature.second) args
+
+-- what an operation gives, where there is such an operation and it gives a value
+abbrev pub gives_of : Option Signature → Option Par
+gives_of None = None
+gives_of (Some signature) = signature.gives
 
 -- what a request must meet to be run
 abbrev pub Fits : Machine → Request → Type 0

@@ -13,6 +13,14 @@ name_refusal text =
     if length text == 0 then Some faults.Empty
     else (if nat_lt 255 (length text) then Some (faults.Long (length text)) else option_map faults.Zero (zero_place text))
 
+-- the text, if it is a name
+abbrev pub unless_refused : List ℕ → Option NameFault → Option (List ℕ)
+unless_refused text None = Some text
+unless_refused text (Some fault) = None
+
+abbrev pub name_of : List ℕ → Option (List ℕ)
+name_of text = unless_refused text (name_refusal text)
+
 pub record IsName (text : List ℕ) : Type 0 where
   pub filled : 0 < length text
   pub short : length text ≤ 255

@@ -1,5 +1,5 @@
 -- Views: a group's members at one version of its reference. (Chapter 23, "Object Group References".)
-use Rattle.std.specs.Prelude.{◌≡◌, ℕ, ◌<◌, ◌≤◌, true, List, [], length, Option, Some, None}
+use Rattle.std.specs.Prelude.{◌≡◌, ℕ, ◌<◌, ◌≤◌, ◌==◌, Bool, true, false, List, [], length, Option, Some, None}
 use Rattle.ft_base.specs.Members.{is_member, AreDifferent}
 use Rattle.ft_base.specs.declared.limits.TheConstants.{VIEW_LIMIT}
 use Rattle.ft_base.specs.declared.views.TheConstants.{MEMBER_LIMIT}
@@ -7,6 +7,21 @@ use Rattle.ft_base.specs.declared.numbers.HostNo.{HostNo}
 use Rattle.ft_base.specs.declared.views.Style.{Style}
 use Rattle.ft_base.specs.declared.views.Style.TheVariants.{Cold, Warm, Active}
 use Rattle.ft_base.specs.declared.views.View.{View}
+
+-- COLD_PASSIVE and WARM_PASSIVE: one member, the primary, runs the requests. (Chapter 23, "Replication Styles".)
+abbrev pub is_passive : Style → Bool
+is_passive Cold = true
+is_passive Warm = true
+is_passive Active = false
+
+-- the primary, where there is one, is this host
+abbrev pub is_primary : Option HostNo → ℕ → Bool
+is_primary None host = false
+is_primary (Some primary) host = primary.0 == host
+
+-- a view is led by its primary
+abbrev pub is_led_by : View → ℕ → Bool
+is_led_by view host = is_primary view.primary host
 
 -- a passive group has a primary exactly where it has members, and it is one of them
 abbrev pub IsPassivePrimary : List ℕ → Option HostNo → Type 0

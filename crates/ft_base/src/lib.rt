@@ -20,6 +20,8 @@
 //! ```
 #![tactic(auto)]
 
+mod admissions;
+mod codings;
 mod counter;
 mod decisions;
 mod laws;
@@ -34,15 +36,17 @@ mod text;
 mod values;
 mod views;
 
+pub use admissions::Admission;
+pub use codings::{Coded, ValueServant};
 pub use counter::Steps;
 pub use decisions::{Decision, Ignored, Stop};
 pub use laws::{replies_are_given, requests_join, requests_lead_on};
 pub use limits::{ARGUMENTS_LIMIT, HOST_LIMIT, JOURNAL_LIMIT, RESULT_LIMIT, VIEW_LIMIT};
-pub use memory::NoMemory;
+pub use memory::{NoMemory, push_within};
 pub use moves::{move_state, move_update};
 pub use numbers::{GroupId, HostNo, Retention, Tick, Version};
-pub use requests::{Key, Outcome, Par, Request, Signature};
+pub use requests::{Key, Outcome, Par, Request, Signature, gives_of};
 pub use servants::{Servant, StateFault, UpdateFault};
-pub use text::{Bytes, NAME_LIMIT, Name, NameFault};
+pub use text::{Bytes, NAME_LIMIT, Name, NameFault, first_zero};
 pub use values::{Value, canonical_forms_are_of_values};
-pub use views::{MEMBER_LIMIT, Members, Style, View};
+pub use views::{MEMBER_LIMIT, Members, Style, View, has_host};

@@ -1,4 +1,4 @@
-ghost use Rattle.std.specs.Prelude.{◌≡◌};
+ghost use Rattle.std.specs.Prelude.{◌≡◌, ◌+◌, ◌<◌, ◌++◌, ◌∷◌, [], vec_len, vec_capacity};
 
 use std::alloc::{AllocError, AllocFailed};
 
@@ -19,5 +19,17 @@ impl<T: Drop> From<AllocFailed<T>> for NoMemory {
 
     fn from(_error: AllocFailed<T>) -> NoMemory {
         NoMemory
+    }
+}
+
+/// Appends an item for which a list has room.
+pub fn push_within<T: Drop>(items: &mut Vec<T>, item: T)
+    requires { vec_len items.old < vec_capacity items.old }
+    ensures items { items.new.items ≡ items.old.items ++ item ∷ [] }
+    ensures len { vec_len items.new ≡ vec_len items.old + 1 }
+{
+    match items.push(item) {
+        Ok(()) => {}
+        Err(_) => unreachable!(),
     }
 }

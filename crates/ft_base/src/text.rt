@@ -4,6 +4,7 @@ ghost use Rattle.ft_base.specs.Text.{IsName, name_refusal, zero_place};
 
 use crate::memory::NoMemory;
 use crate::stored::Stored;
+use memchr::memchr;
 use std::alloc::Global;
 use std::marker::Model;
 use thiserror::Error;
@@ -50,11 +51,13 @@ pub enum NameFault {
 /// The longest name, in bytes.
 pub const NAME_LIMIT: usize = 255;
 
-fn first_zero(text: &[u8]) -> Option<usize>
+/// The place of the first zero byte.
+#[tactic(auto, using(crate::proofs::TextLaws::first_is_place))]
+pub fn first_zero(text: &[u8]) -> Option<usize>
     ensures place { result ≡ zero_place text.now }
     ensures within { IfSome result (λ place. place < length text.now) }
 {
-    text.iter().position(|byte| *byte == 0)
+    memchr(0, text)
 }
 
 impl Name {

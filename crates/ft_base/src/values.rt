@@ -29,6 +29,17 @@ impl Value {
             Value::Octets(_) => Par::Octets,
         }
     }
+
+    /// The octets of a value that is octets.
+    pub fn into_octets(self) -> Bytes
+        requires { type_of self ≡ Par.Octets }
+        ensures { self ≡ Value.Octets result }
+    {
+        match self {
+            Value::Octets(octets) => octets,
+            _ => unreachable!(),
+        }
+    }
 }
 
 /// Bytes are in the canonical form of some types exactly where they are the spellings, one behind the

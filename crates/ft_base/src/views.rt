@@ -1,5 +1,6 @@
 ghost use Rattle.std.specs.Prelude.{◌≡◌, ℕ, ◌<◌, ◌≤◌, false, [], ◌∷◌, ◌++◌, List, length};
-ghost use Rattle.ft_base.specs.Members.{is_member, AreDifferent};
+ghost use Rattle.ft_base.specs.Members.{first_of, is_empty, is_member, AreDifferent};
+ghost use Rattle.ft_base.specs.Views.{is_led_by, is_passive};
 
 use crate::numbers::{HostNo, Version};
 use arrayvec::ArrayVec;
@@ -19,6 +20,25 @@ pub enum Style {
     Active,
 }
 
+impl Style {
+    /// Whether one member, the primary, runs the requests.
+    pub fn is_passive(self) -> bool
+        ensures { result ≡ is_passive self }
+    {
+        match self {
+            Style::Cold | Style::Warm => true,
+            Style::Active => false,
+        }
+    }
+}
+
+/// Whether a host is among these host numbers.
+pub fn has_host(hosts: &[u8], host: HostNo) -> bool
+    ensures { result ≡ is_member host.0 hosts.now }
+{
+    hosts.iter().any(|other| *other == host.0)
+}
+
 /// The members of a group: at most 16 different host numbers, in order of joining.
 #[derive(Debug, Drop)]
 pub struct Members {
@@ -26,9 +46,13 @@ pub struct Members {
 }
 
 impl Model for Members {
+    ghost use Rattle.std.specs.Prelude.{ℕ, List};
+
     ghost Value = { List ℕ };
 
     ghost view = { λ m. m.hosts.items };
+
+    ghost use Rattle.ft_base.specs.Members.{AreDifferent};
 
     ghost invariant = { λ m. AreDifferent m.hosts.items };
 }
@@ -55,15 +79,33 @@ impl Members {
     pub fn len(&self) -> usize
         ensures count { result ≡ length self.now }
         ensures limit { result ≤ MEMBER_LIMIT }
+        ensures different { AreDifferent self.now }
     {
         self.hosts.len()
+    }
+
+    /// Whether there are none.
+    pub fn is_empty(&self) -> bool
+        ensures { result ≡ is_empty self.now }
+    {
+        self.hosts.len() == 0
+    }
+
+    /// The first that joined, where there is one.
+    pub fn first(&self) -> Option<HostNo>
+        ensures { result ≡ first_of self.now }
+    {
+        match self.hosts.as_slice() {
+            [] => None,
+            [host, ..] => Some(HostNo(*host)),
+        }
     }
 
     /// Whether the host is a member.
     pub fn has(&self, host: HostNo) -> bool
         ensures { result ≡ is_member host.0 self.now }
     {
-        self.hosts.as_slice().iter().any(|other| *other == host.0)
+        has_host(self.hosts.as_slice(), host)
     }
 
     /// Adds a member, as the last in order of joining.
@@ -96,6 +138,16 @@ impl Members {
 }
 
 impl View {
+    /// Whether the host is the primary of the view.
+    pub fn is_led_by(&self, host: HostNo) -> bool
+        ensures { result ≡ is_led_by self.now host.0 }
+    {
+        match self.primary {
+            None => false,
+            Some(primary) => primary.0 == host.0,
+        }
+    }
+
     /// The same view. It takes no memory.
     pub fn copy(&self) -> View
         ensures { result ≡ self.now }

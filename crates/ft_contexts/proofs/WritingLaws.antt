@@ -17,7 +17,7 @@ use Rattle.byteorder.specs.Endian.{big_bytes}
 use Rattle.byteorder.specs.Numbers.{length-bytes_high_first}
 use Rattle.ft_base.specs.Canonical.{padding}
 use Rattle.std.proofs.Math.Facts.{Fits-of_z, Fits-lt-pow}
-use Rattle.ft_base.specs.Text.{IsName}
+use Rattle.ft_base.specs.Text.{unless_refused, name_of, IsName}
 use Rattle.ft_base.specs.declared.memory.NoMemory.{NoMemory}
 use Rattle.ft_base.specs.declared.numbers.Version.{Version}
 use Rattle.ft_base.specs.declared.text.NameFault.{NameFault}
@@ -28,7 +28,7 @@ use Rattle.cdr_codec.proofs.ValueLaws.{text_valid, signed_valid}
 use Rattle.cdr_codec.proofs.EncapsulationLaws.{inside_written}
 use Rattle.ft_contexts.specs.declared.lists.TheConstants.{FT_GROUP_VERSION, FT_REQUEST}
 use Rattle.ft_contexts.specs.declared.lists.Context.{Context}
-use Rattle.ft_contexts.specs.Contents.{group_version, unless_refused, name_of, client_id, request_fields, request}
+use Rattle.ft_contexts.specs.Contents.{group_version, client_id, request_fields, request}
 use Rattle.ft_contexts.specs.Finding.{IsShort, contexts_of, AreFound}
 use Rattle.ft_contexts.specs.Writing.{context_of, written_contexts, told, IsWritable}
 use Rattle.ft_contexts.proofs.ContentLaws.{group_version_codec, request_codec}

@@ -1,10 +1,9 @@
 -- What the two contexts hold, behind the byte order of their encapsulation.
-use Rattle.std.specs.Prelude.{ℕ, List, Option, Some, None}
+use Rattle.std.specs.Prelude.{ℕ, List}
 use Rattle.std.specs.Int.{w32}
-use Rattle.ft_base.specs.Text.{name_refusal}
+use Rattle.ft_base.specs.Text.{name_of}
 use Rattle.ft_base.specs.declared.numbers.Version.{Version}
 use Rattle.ft_base.specs.declared.requests.Key.{Key}
-use Rattle.ft_base.specs.declared.text.NameFault.{NameFault}
 use Rattle.cdr_codec.specs.declared.faults.CdrWhy.{CdrWhy}
 use Rattle.cdr_codec.specs.declared.faults.CdrWhy.TheVariants.{BadString}
 use Rattle.cdr_codec.specs.Formats.{Format, number, judged, shaped}
@@ -14,14 +13,6 @@ use Rattle.cdr_codec.specs.Values.{text, signed}
 -- FT_GROUP_VERSION: an unsigned long
 abbrev pub group_version : Format CdrWhy Version
 group_version = shaped (number 4) (λ n. record { 0 = n }) (λ version. version.0)
-
-abbrev pub unless_refused : List ℕ → Option NameFault → Option (List ℕ)
-unless_refused t None = Some t
-unless_refused t (Some wrong) = None
-
--- the text, if it is a name
-abbrev pub name_of : List ℕ → Option (List ℕ)
-name_of t = unless_refused t (name_refusal t)
 
 -- a client's id: a string of 1 to 255 bytes
 abbrev pub client_id : Format CdrWhy (List ℕ)

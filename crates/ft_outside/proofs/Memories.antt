@@ -1,7 +1,7 @@
 -- The exact clauses of the forms in memory give those of the traits.
-use Rattle.std.proofs.Common.{◌≡◌, ℕ, List, ◌++◌, take, drop, Some, sym, ap, ◌∙◌, arith}
-use Rattle.std.proofs.lemmas.List.{take-append-drop}
+use Rattle.std.proofs.Common.{ℕ, List, ◌++◌, take, Some, sym, ap, ◌∙◌, arith}
 use Rattle.std.proofs.Math.Seq.{take-length}
+use Rattle.ft_outside.specs.Gains.{left_splits}
 use Rattle.ft_outside.specs.Memory.{Feed, Store, IsReadOfFeed, IsWriteToStore}
 use Rattle.ft_outside.specs.Outside.{IsRead, IsWritten}
 use Rattle.ft_outside.specs.declared.sources.Got.{Got}
@@ -9,13 +9,10 @@ use Rattle.ft_outside.specs.declared.sources.Got.TheVariants as gots
 use Rattle.ft_outside.specs.declared.sinks.Put.{Put}
 use Rattle.ft_outside.specs.declared.sinks.Put.TheVariants as puts
 
-front_rest : (n : ℕ) (into left rest : List ℕ) → take n into ≡ take n left → rest ≡ drop n left → left ≡ take n into ++ rest
-front_rest n into left rest e r = sym (ap (λ (xs : List ℕ). xs ++ rest) e ∙ ap (λ (ys : List ℕ). take n left ++ ys) r ∙ take-append-drop n left)
-
 pub read_of_feed : (old new : Feed) (into : List ℕ) (got : Got) → IsReadOfFeed old new into got
     → IsRead (Some old.left) (Some new.left) old.schedule.faults new.schedule.faults into got
 read_of_feed old new into (gots.Bytes n) h =
-    (h.1, omega (arith, h.2), ap Some (front_rest n into old.left new.left h.3 (ap (λ (f : Feed). f.left) h.4)), ap (λ (f : Feed). f.schedule.faults) h.4)
+    (h.1, omega (arith, h.2), ap Some (left_splits n into old.left new.left h.3 (ap (λ (f : Feed). f.left) h.4)), ap (λ (f : Feed). f.schedule.faults) h.4)
 read_of_feed old new into gots.End h =
     (ap (λ (f : Feed). Some f.left) h.2, ap Some h.1, ap (λ (f : Feed). f.schedule.faults) h.2)
 read_of_feed old new into gots.Failed h =

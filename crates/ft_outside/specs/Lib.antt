@@ -3,3 +3,4 @@ pub mod Schedules
 pub mod Memory
 pub mod Standard
 pub mod Keeping
+pub mod Gains

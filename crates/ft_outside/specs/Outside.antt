@@ -1,6 +1,6 @@
 -- What a call of the outside did, as equations between what a source or a sink tells before and after.
 -- `left` and `holds` are None where an object tells nothing of its content; that then stays so.
-use Rattle.std.specs.Prelude.{◌≡◌, ℕ, ◌+◌, ◌<◌, ◌≤◌, ◌==◌, if◌then◌else◌, List, [], ◌++◌, length, take, Option, option_map}
+use Rattle.std.specs.Prelude.{◌≡◌, ℕ, ◌+◌, ◌<◌, ◌≤◌, ◌==◌, min, if◌then◌else◌, List, [], ◌++◌, length, take, Option, option_map}
 use Rattle.ft_outside.specs.declared.sources.Got.{Got}
 use Rattle.ft_outside.specs.declared.sources.Got.TheVariants as gots
 use Rattle.ft_outside.specs.declared.sinks.Put.{Put}
@@ -13,6 +13,10 @@ use Rattle.ft_outside.specs.declared.wholes.WholeWrite.TheVariants as writes
 -- one more, but at the end of a count, 2^64 - 1
 abbrev pub next_count : ℕ → ℕ
 next_count n = if n == 18446744073709551615 then n else n + 1
+
+-- two counts together, as far as a count's end
+abbrev pub added : ℕ → ℕ → ℕ
+added one other = min (one + other) 18446744073709551615
 
 -- a read: the bytes that came stood at the front of those that were left; the end is where none are
 -- left; a failed read takes none, and counts as one fault, which nothing else does

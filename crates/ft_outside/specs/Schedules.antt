@@ -11,6 +11,10 @@ pub record Schedule : Type 0 where
   -- how many faults there were
   pub faults : ℕ
 
+-- a schedule before the first call
+abbrev pub schedule_of : List ℕ → Schedule
+schedule_of fails = record { calls = 0; fails = fails; faults = 0 }
+
 -- the next call is to fail
 abbrev pub is_failing : Schedule → Bool
 is_failing s = list_any (λ number. number == next_count s.calls) s.fails
@@ -22,3 +26,7 @@ after_call s = record s { calls = next_count s.calls }
 -- a schedule after a call that failed
 abbrev pub after_fault : Schedule → Schedule
 after_fault s = record s { calls = next_count s.calls; faults = next_count s.faults }
+
+-- a schedule after a fault that is no numbered call
+abbrev pub after_stray : Schedule → Schedule
+after_stray s = record s { faults = next_count s.faults }

@@ -1,7 +1,7 @@
 //! The outside of `ftc`: where bytes come from and go to. A source and a sink may tell what they
 //! have left and what they hold, and each counts its faults, so that a contract can say what was
 //! read and written, and that a failure is answered only where there was one. Forms in memory tell
-//! all of it. Of the adapters to the system a run sees their faults alone; their own clauses say that they
+//! all of it, and fail where a [`Schedule`] says so. Of the adapters to the system a run sees their faults alone; their own clauses say that they
 //! answer what their device did.
 //!
 //! A sink in memory with room for 8 bytes, whose second write fails:
@@ -16,6 +16,7 @@
 //! ```
 #![tactic(auto)]
 
+mod copies;
 mod keepers;
 mod mem_keepers;
 mod mem_sinks;
@@ -26,14 +27,16 @@ mod sources;
 mod standard;
 mod wholes;
 
+pub use copies::vec_of;
 pub use keepers::{Keeper, Kept};
 pub use mem_keepers::MemKeeper;
 pub use mem_sinks::MemSink;
 pub use mem_sources::MemSource;
+pub use schedules::{Schedule, add_counts, next_count};
 pub use sinks::{Flush, Put, Sink};
 pub use sources::{Got, Source};
 pub use standard::{StdSink, StdSource};
-pub use wholes::{WholeWrite, write_all};
+pub use wholes::{WholeWrite, behind, write_all};
 
 #[cfg(test)]
 mod tests;

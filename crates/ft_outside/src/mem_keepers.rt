@@ -1,4 +1,4 @@
-ghost use Rattle.std.specs.Prelude.{◌≡◌, ◌+◌, ◌≤◌, max, fold, drop, [], IfOk, OnOk, OnErr};
+ghost use Rattle.std.specs.Prelude.{◌≡◌, ◌+◌, ◌<◌, ◌≤◌, max, fold, drop, [], IfOk, OnOk, OnErr};
 ghost use Rattle.std.specs.VecDeque.{deque_len, deque_capacity};
 ghost use Rattle.ft_outside.specs.Keeping.{planned, failing_next};
 
@@ -41,7 +41,8 @@ fn greatest(numbers: &[u64]) -> u64
 }
 
 fn plan_of(alloc: Global, fails: &[u64]) -> Result<VecDeque<bool>, NoMemory>
-    ensures { IfOk result (λ plan. plan.items ≡ planned fails.now) }
+    ensures planned { IfOk result (λ plan. plan.items ≡ planned fails.now) }
+    ensures some { OnErr result (0 < fold max 0 fails.now) }
 {
     let mut plan = VecDeque::new(alloc);
     for calls in 0..greatest(fails) {
@@ -54,11 +55,13 @@ fn plan_of(alloc: Global, fails: &[u64]) -> Result<VecDeque<bool>, NoMemory>
 /// Makes the first place `true`, whether or not there was one.
 fn set_first(plan: &mut VecDeque<bool>) -> Result<(), NoMemory>
     ensures planned { OnOk result (plan.new.items ≡ failing_next plan.old.items) }
-    ensures left { OnErr result (plan.new.items ≡ plan.old.items) }
+    ensures left { OnErr result ((plan.new.items ≡ plan.old.items) × (plan.old.items ≡ [])) }
 {
-    plan.reserve(1)?;
+    if plan.is_empty() {
+        plan.reserve(1)?;
+    }
     plan.pop_front();
-    plan.push_front(true).unwrap();
+    plan.push_front_reserved(true);
     Ok(())
 }
 
@@ -73,9 +76,10 @@ fn drop_first(records: &mut VecDeque<Bytes>, count: usize)
 
 impl MemKeeper {
     /// A keeper without records. `fails` are the numbers, from 1, of the writing calls that are to
-    /// fail.
+    /// fail. It takes memory only where there are such.
     pub fn new(alloc: Global, fails: &[u64]) -> Result<MemKeeper, NoMemory>
-        ensures { IfOk result (λ keeper. keeper ≡ record { records = []; spare = 0; plan = planned fails.now; faults = 0 }) }
+        ensures empty { IfOk result (λ keeper. keeper ≡ record { records = []; spare = 0; plan = planned fails.now; faults = 0 }) }
+        ensures some { OnErr result (0 < fold max 0 fails.now) }
     {
         let plan = plan_of(alloc, fails)?;
         Ok(MemKeeper {
@@ -86,10 +90,10 @@ impl MemKeeper {
         })
     }
 
-    /// Makes the next writing call fail.
+    /// Makes the next writing call fail. It takes memory only where the plan is at its end.
     pub fn fail_next(&mut self) -> Result<(), NoMemory>
         ensures planned { OnOk result (self.new ≡ record self.old { plan = failing_next self.old.plan }) }
-        ensures left { OnErr result (self.new ≡ self.old) }
+        ensures left { OnErr result ((self.new ≡ self.old) × (self.old.plan ≡ [])) }
     {
         set_first(&mut self.plan)
     }

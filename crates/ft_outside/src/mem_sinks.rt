@@ -1,5 +1,6 @@
-ghost use Rattle.std.specs.Prelude.{◌≡◌, ℕ, ◌<◌, Some, IfOk, [], length};
+ghost use Rattle.std.specs.Prelude.{◌≡◌, ℕ, ◌+◌, ◌<◌, Some, IfOk, OnErr, [], length};
 ghost use Rattle.ft_outside.specs.Outside.{IsFlushed, IsWritten};
+ghost use Rattle.ft_outside.specs.Schedules.{schedule_of};
 ghost use Rattle.ft_outside.specs.Memory.{IsWriteToStore};
 
 use crate::schedules::Schedule;
@@ -31,8 +32,8 @@ impl Model for MemSink {
 impl MemSink {
     /// An empty sink. `fails` are the numbers, from 1, of the writes that are to fail.
     pub fn new(alloc: Global, room: u64, fails: &[u64]) -> Result<MemSink, NoMemory>
-        ensures { IfOk result (λ sink. sink ≡
-            record { held = []; room = room; schedule = record { calls = 0; fails = fails.now; faults = 0 } }) }
+        ensures value { IfOk result (λ sink. sink ≡ record { held = []; room = room; schedule = schedule_of fails.now }) }
+        ensures some { OnErr result (0 < room + length fails.now) }
     {
         let bytes = Vec::with_capacity(alloc, room as usize)?;
         let schedule = Schedule::new(alloc, fails)?;

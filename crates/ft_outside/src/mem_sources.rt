@@ -1,7 +1,9 @@
-ghost use Rattle.std.specs.Prelude.{◌≡◌, ℕ, ◌<◌, Some, IfOk, length};
+ghost use Rattle.std.specs.Prelude.{◌≡◌, ℕ, ◌+◌, ◌<◌, Some, IfOk, OnErr, length};
 ghost use Rattle.ft_outside.specs.Outside.{IsRead};
+ghost use Rattle.ft_outside.specs.Schedules.{schedule_of};
 ghost use Rattle.ft_outside.specs.Memory.{IsReadOfFeed};
 
+use crate::copies::vec_of;
 use crate::schedules::Schedule;
 use crate::sources::{Got, Source};
 use ft_base::NoMemory;
@@ -30,10 +32,10 @@ impl Model for MemSource {
 impl MemSource {
     /// A source of these bytes. `fails` are the numbers, from 1, of the reads that are to fail.
     pub fn new(alloc: Global, left: &[u8], fails: &[u64]) -> Result<MemSource, NoMemory>
-        ensures { IfOk result (λ source. source ≡
-            record { left = left.now; schedule = record { calls = 0; fails = fails.now; faults = 0 } }) }
+        ensures value { IfOk result (λ source. source ≡ record { left = left.now; schedule = schedule_of fails.now }) }
+        ensures some { OnErr result (0 < length left.now + length fails.now) }
     {
-        let bytes = Vec::from_slice(alloc, left)?;
+        let bytes = vec_of(alloc, left)?;
         let schedule = Schedule::new(alloc, fails)?;
         Ok(MemSource {
             bytes,

@@ -1,6 +1,6 @@
 use crate::{
-    Flush, Got, Keeper, Kept, MemKeeper, MemSink, MemSource, Put, Sink, Source, StdSink, StdSource,
-    WholeWrite, write_all,
+    Flush, Got, Keeper, Kept, MemKeeper, MemSink, MemSource, Put, Schedule, Sink, Source, StdSink,
+    StdSource, WholeWrite, add_counts, next_count, write_all,
 };
 use ft_base::{Bytes, NoMemory};
 use std::io;
@@ -134,5 +134,20 @@ fn a_keeper_fails_where_planned_and_keeps_the_rest(rt: HostRuntime) -> Result<()
     assert_eq!(rt; keeper.append(Bytes::of(alloc, b"e")?), Kept::Done);
     assert!(rt; record_is(&keeper, 1, b"e"));
     assert!(rt; keeper.read(2).is_none());
+    Ok(())
+}
+
+#[test]
+fn a_schedule_fails_where_told(rt: HostRuntime) -> Result<(), NoMemory> {
+    let mut schedule = Schedule::new(rt.alloc(), &[2])?;
+    assert!(rt; !schedule.is_failing());
+    schedule.pass();
+    assert!(rt; schedule.is_failing());
+    schedule.fail();
+    schedule.stray();
+    assert!(rt; !schedule.is_failing());
+    assert_eq!(rt; schedule.faults(), 2);
+    assert_eq!(rt; next_count(u64::MAX), u64::MAX);
+    assert_eq!(rt; add_counts(u64::MAX, 3), u64::MAX);
     Ok(())
 }

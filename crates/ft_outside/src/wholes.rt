@@ -10,7 +10,8 @@ pub enum WholeWrite {
     Failed,
 }
 
-fn behind(text: &[u8], done: usize) -> &[u8]
+/// What stands behind the first bytes of a text, so many.
+pub fn behind(text: &[u8], done: usize) -> &[u8]
     requires { done ≤ length text.now }
     ensures { result.now ≡ drop done text.now }
 {

@@ -3,6 +3,7 @@
 use Rattle.std.proofs.Common.{◌≡◌, ℕ, suc, ◌+◌, ◌<◌, ◌≤◌, ◌^◌, arith, Bool, true, false, List, [], ◌∷◌, Option, Some, None, Result, Ok, Err, refl, sym, subst, ◌∙◌}
 use Rattle.std.specs.Prelude.{◌-◌, if◌then◌else◌, slice_get}
 use Rattle.std.specs.List.{AllByRecursion}
+use Rattle.ft_base.specs.Machine.{gives_of}
 use Rattle.ft_base.specs.declared.decisions.Stop.{Stop}
 use Rattle.ft_base.specs.declared.numbers.GroupId.{GroupId}
 use Rattle.ft_base.specs.declared.numbers.HostNo.{HostNo}
@@ -35,7 +36,7 @@ use Rattle.group_model.specs.declared.events.Out.{Out}
 use Rattle.group_model.specs.Asking.{signature_asked}
 use Rattle.group_model.specs.Sending.{brought}
 use Rattle.group_model.specs.Views.{host_no}
-use Rattle.group_references.specs.Ports.{host_at}
+use Rattle.host_ports.specs.Ports.{host_at}
 use Rattle.host_server.specs.Replies.{no_group}
 use Rattle.iogr_reference.specs.Choices.{group_of_key}
 use Rattle.link_session.specs.Amid.{Grows, session_grows}
@@ -77,7 +78,6 @@ use Rattle.ft_world.specs.Links.{answered_by, ask_group, asked_event, group_by, 
 use Rattle.world_management.specs.Making.{client_causes, client_line, group_causes, group_line, hosts_causes, hosts_line, kind_of, made_group, new_group, next_id, stopped_from, stopped_if, style_criteria}
 use Rattle.world_management.specs.Properties.{get_group_found, set_group_found, set_in, set_line, set_unless, unset_line}
 use Rattle.ft_world.specs.Retrying.{bind_from, bind_to, bound_by, timed_out, timeout_from}
-use Rattle.ft_world.specs.Printed.{gives_of}
 use Rattle.world_management.specs.Reading.{member_of, reads}
 use Rattle.script_groups.specs.References.{newest_reference}
 use Rattle.script_groups.specs.Reading.{identified, located, member_referred, referred}

@@ -8,7 +8,7 @@ use Rattle.cdr_codec.specs.declared.orders.Order.{Order}
 use Rattle.group_core.specs.Telling.{shown_view}
 use Rattle.host_server.specs.Replies.{CanGive, IsForward}
 use Rattle.iogr_reference.specs.declared.references.Ior.{Ior}
-use Rattle.group_references.specs.Ports.{all_ports}
+use Rattle.host_ports.specs.Ports.{all_ports}
 use Rattle.link_session.specs.References.{ViewReferencesCanBeSent}
 use Rattle.script_groups.specs.Acting.{IsSoundGroup, MayCome}
 use Rattle.script_groups.specs.Groups.{ScriptGroup, common_of}
@@ -24,7 +24,7 @@ use Rattle.giop_stream.specs.declared.sessions.SessionStep.TheVariants as steps
 use Rattle.giop_stream.specs.declared.sessions.StreamEnd.{StreamEnd}
 use Rattle.giop_stream.specs.Parts.{Received}
 use Rattle.giop_stream.specs.Sessions.{AreAll, Goes, Serves, Serving, Session, session}
-use Rattle.ft_base.specs.Machine.{Machine, IsGivenAs}
+use Rattle.ft_base.specs.Machine.{gives_of, Machine, IsGivenAs}
 use Rattle.ft_base.specs.declared.memory.NoMemory.{NoMemory}
 use Rattle.ft_base.specs.declared.decisions.Stop.{Stop}
 use Rattle.ft_base.specs.declared.decisions.Stop.TheVariants.{Never}
@@ -49,7 +49,6 @@ use Rattle.script_groups.specs.Groups.{Placed, acted, machine_of, placed, turn}
 use Rattle.script_world.specs.World.{World, host_clock, with_event}
 use Rattle.script_world.specs.Worlds.{HasTurnAt, IsShortAt}
 use Rattle.ft_world.specs.Links.{answered_by, ask_group, asked_event, group_keyed, world_port}
-use Rattle.ft_world.specs.Printed.{gives_of}
 use Rattle.ft_world.specs.declared.links.Said.{Said}
 use Rattle.ft_world.specs.Serving.{AnsweredBy, AreInForm, Asks, IsAsked, IsChange, IsInForm, IsServed, IsWithin}
 use Rattle.world_turns.specs.Turns.{Effect, effect, says}

@@ -1,6 +1,7 @@
 -- Replies in the form in which they would go over a link.
 use Rattle.std.proofs.Common.{◌≡◌, ℕ, Option, Some, None, refl, sym, ap, subst, ◌∙◌}
 use Rattle.std.specs.Prelude.{option_map, slice_get}
+use Rattle.ft_base.specs.Machine.{gives_of}
 use Rattle.ft_base.specs.declared.decisions.Stop.{Stop}
 use Rattle.ft_base.specs.declared.numbers.Tick.{Tick}
 use Rattle.group_model.specs.Asking.{signature_asked}
@@ -22,7 +23,6 @@ use Rattle.script_groups.specs.Lists.{same_some}
 use Rattle.ft_world.specs.Delivering.{asker_of, request_event}
 use Rattle.ft_world.specs.declared.deliveries.Asker.{Asker}
 use Rattle.ft_world.specs.declared.deliveries.Arrival.{Arrival}
-use Rattle.ft_world.specs.Printed.{gives_of}
 use Rattle.ft_world.specs.Serving.{AreInForm}
 
 module _ (w later : World) (r : Arrival) (stop : Stop) (place : ℕ) (g : ScriptGroup) (asker : Asker)

@@ -18,7 +18,7 @@ use Rattle.ft_report.specs.declared.reports.CallEnd.TheVariants as shown_ends
 use Rattle.ft_report.specs.declared.outcomes.ReportOutcome.TheVariants.{System}
 use Rattle.ft_report.specs.declared.reports.ReportLine.{ReportLine}
 use Rattle.ft_report.specs.declared.reports.ReportLine.TheVariants as reports
-use Rattle.group_references.specs.Ports.{host_at}
+use Rattle.host_ports.specs.Ports.{host_at}
 use Rattle.iogr_reference.specs.declared.references.GroupRef.{GroupRef}
 use Rattle.message_sizes.specs.Sizes.{request_size}
 use Rattle.script_clients.specs.declared.answers.Attempt.{Attempt}

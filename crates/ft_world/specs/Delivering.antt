@@ -1,5 +1,6 @@
 -- `deliver K`: a message comes to its host or to its client.
 use Rattle.std.specs.Prelude.{ℕ, ◌+◌, if◌then◌else◌, List, [], ◌∷◌, length, slice_get, Option, Some, None}
+use Rattle.ft_base.specs.Machine.{gives_of}
 use Rattle.ft_base.specs.declared.decisions.Stop.{Stop}
 use Rattle.ft_base.specs.declared.numbers.GroupId.{GroupId}
 use Rattle.ft_base.specs.declared.numbers.HostNo.{HostNo}
@@ -35,7 +36,7 @@ use Rattle.script_world.specs.declared.messages.Reply.{Reply}
 use Rattle.ft_world.specs.Clients.{does}
 use Rattle.world_management.specs.Hosts.{stopped}
 use Rattle.ft_world.specs.Links.{port_answer}
-use Rattle.ft_world.specs.Printed.{gives_of, shown}
+use Rattle.ft_world.specs.Printed.{shown}
 use Rattle.message_sizes.specs.Sizes.{answer_size}
 use Rattle.world_turns.specs.Sending.{all_sent, sent_lines}
 use Rattle.script_world.specs.World.{World, counted, host_clock, is_up, message_numbered, with_client, with_event, with_messages}

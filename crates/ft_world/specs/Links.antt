@@ -1,6 +1,7 @@
 -- `inject H HEX`: the bytes of a whole link come to a host, which serves the link's session through a port.
 -- (GIOP chapter, "GIOP Message Transfer".)
 use Rattle.std.specs.Prelude.{ℕ, ◌+◌, Bool, true, false, if◌then◌else◌, List, [], ◌∷◌, ◌++◌, length, Option, Some, None}
+use Rattle.ft_base.specs.Machine.{gives_of}
 use Rattle.ft_base.specs.declared.decisions.Stop.TheVariants.{Never}
 use Rattle.ft_base.specs.declared.numbers.GroupId.{GroupId}
 use Rattle.ft_base.specs.declared.requests.Par.{Par}
@@ -26,7 +27,6 @@ use Rattle.sys_faults.specs.declared.answers.Answer.TheVariants as answers
 use Rattle.script_groups.specs.Groups.{ScriptGroup, Placed, acted, knows_as_member, machine_of, turn}
 use Rattle.script_groups.specs.References.{ior_at}
 use Rattle.world_management.specs.Hosts.{host_causes}
-use Rattle.ft_world.specs.Printed.{gives_of}
 use Rattle.world_turns.specs.Sending.{all_sent, sent_lines}
 use Rattle.script_world.specs.World.{World, host_clock, is_up, with_event}
 use Rattle.world_turns.specs.Naming.{group_with_number, there_only}

@@ -1,19 +1,13 @@
 -- Answers as they are printed.
-use Rattle.std.specs.Prelude.{ℕ, List, Option, Some, None}
+use Rattle.std.specs.Prelude.{ℕ, List, Option}
 use Rattle.ft_base.specs.declared.requests.Par.{Par}
 use Rattle.ft_base.specs.declared.requests.Outcome.{Outcome}
 use Rattle.ft_base.specs.declared.requests.Outcome.TheVariants as outcomes
-use Rattle.ft_base.specs.declared.requests.Signature.{Signature}
 use Rattle.sys_faults.specs.declared.answers.Answer.{Answer}
 use Rattle.sys_faults.specs.declared.answers.Answer.TheVariants as answers
 use Rattle.ft_report.specs.Worth.{worth_in}
 use Rattle.ft_report.specs.declared.outcomes.ReportOutcome.{ReportOutcome}
 use Rattle.ft_report.specs.declared.outcomes.ReportOutcome.TheVariants as showns
-
--- what an operation gives
-abbrev pub gives_of : Option Signature → Option Par
-gives_of None = None
-gives_of (Some signature) = signature.gives
 
 -- an outcome, of an operation that gives this
 abbrev pub shown_outcome : Option Par → Outcome → ReportOutcome

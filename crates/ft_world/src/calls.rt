@@ -15,7 +15,7 @@ use crate::printing::shown_end;
 use fault_script::{CallWords, LineFault, Words, call_words};
 use ft_base::{GroupId, Key, Name, NoMemory, Par, Request, Retention, Tick, Version};
 use ft_report::{ReportLine, ReportLines};
-use group_references::host_at;
+use host_ports::host_at;
 use iogr_reference::GroupRef;
 use message_sizes::request_size;
 use script_clients::{Attempt, ScriptClient, Told};

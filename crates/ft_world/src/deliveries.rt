@@ -29,6 +29,7 @@ use fault_script::LineFault;
 use ft_base::{Decision, GroupId, HostNo, Name, NoMemory, Par, Request, Steps, Stop, Version};
 use ft_report::{ReportLine, ReportLines, ReportOutcome};
 use group_model::{Asked, Event, GroupAnswer, Inner, Out, OutList};
+use host_server::no_group;
 use link_session::view_references_can_be_sent;
 use message_sizes::{fault_size, forward_size, outcome_size};
 use script_clients::Attempt;
@@ -36,7 +37,7 @@ use script_groups::{answers_are_in_form, shown_are_views};
 use script_world::{Message, Reply, World, copy_out};
 use std::alloc::Global;
 use std::sync::ledger::Ledger;
-use sys_faults::{Answer, Completed, SysFault, SysKind};
+use sys_faults::Answer;
 use world_monitors::{ping_comes, pong_comes};
 use world_turns::{Named, group_with_number, late_line, one_line, send_all};
 
@@ -401,16 +402,6 @@ fn who_asks(world: &World, arrival: &Arrival, place: usize) -> Result<Option<Ask
         group_name,
         gives: gives_asked(world, place, &arrival.asked.op),
     }))
-}
-
-fn no_group() -> SysFault
-    ensures { result ≡ no_group }
-{
-    SysFault {
-        kind: SysKind::ObjectNotExist,
-        minor: 1,
-        completed: Completed::No,
-    }
 }
 
 // What is printed of a request that was turned away.

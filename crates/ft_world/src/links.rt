@@ -17,13 +17,14 @@ ghost use Rattle.script_world.specs.Sound.{IsKeptWorld, IsOnItsWay};
 ghost use Rattle.script_world.specs.Worlds.{IsPlace};
 ghost use Rattle.world_turns.specs.Answers.{Acts, Does};
 ghost use Rattle.ft_world.specs.Links.{ask_group, bytes_lines, end_line, forward_by, group_keyed, inject_line, is_here, link_of, port_answer, world_port};
-ghost use Rattle.ft_world.specs.Printed.{gives_of};
+ghost use Rattle.ft_base.specs.Machine.{gives_of};
 ghost use Rattle.script_world.specs.World.{carried};
 ghost use Rattle.ft_world.specs.Serving.{AnsweredBy, AreInForm, Asks, Changes, IsInForm, Served};
 
-use crate::printing::gives_of;
 use fault_script::LineFault;
-use ft_base::{Bytes, Decision, GroupId, HostNo, Name, NoMemory, Par, Steps, Stop, Version};
+use ft_base::{
+    Bytes, Decision, GroupId, HostNo, Name, NoMemory, Par, Steps, Stop, Version, gives_of,
+};
 use ft_report::{ReportLine, ReportLines};
 use giop_messages::{Form, Message};
 use giop_stream::{Session, SessionStep, StreamEnd};

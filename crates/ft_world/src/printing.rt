@@ -1,23 +1,13 @@
 //! Answers as they are printed.
 ghost use Rattle.std.specs.Prelude.{◌≡◌, IfOk};
 ghost use Rattle.ft_world.specs.Clients.{shown_end};
-ghost use Rattle.ft_world.specs.Printed.{gives_of, shown, shown_outcome};
+ghost use Rattle.ft_world.specs.Printed.{shown, shown_outcome};
 
 use client_retry::End;
-use ft_base::{Name, NoMemory, Outcome, Par, Signature};
+use ft_base::{Name, NoMemory, Outcome, Par};
 use ft_report::{CallEnd, ReportOutcome, worth_of};
 use std::alloc::Global;
 use sys_faults::Answer;
-
-/// What an operation gives.
-pub(crate) fn gives_of(signature: Option<Signature>) -> Option<Par>
-    ensures { result ≡ gives_of signature }
-{
-    match signature {
-        None => None,
-        Some(signature) => signature.gives,
-    }
-}
 
 #[inline(always)]
 fn shown_outcome(

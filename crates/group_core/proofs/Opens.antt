@@ -14,7 +14,7 @@ use Rattle.message_log.specs.Calls.{fresh}
 use Rattle.message_log.specs.Picture.{Picture as LogPicture, IsLogged, IsPrimaryOf}
 use Rattle.ft_replica.specs.Picture.{opened as opened_picture}
 use Rattle.group_model.specs.Agreeing.{IsSoundHost}
-use Rattle.group_model.specs.Changes.{first_of}
+use Rattle.ft_base.specs.Members.{first_of}
 use Rattle.group_model.specs.Openings.{first_view, opens_loaded, opening_host, opening_common, opening_group}
 use Rattle.group_model.specs.Plain.{Common, Host, blank, nowhere, loaded_at}
 use Rattle.group_stands.specs.Going.{FreshLogsStand, OpenedReplicasStand, BlanksStand}

@@ -8,7 +8,7 @@ use Rattle.ft_base.specs.declared.decisions.Decision.TheVariants as decisions
 use Rattle.ft_outside.specs.Keeping.{plan_after, IsForetold}
 use Rattle.sys_faults.specs.declared.answers.Answer.{Answer}
 use Rattle.message_log.specs.Calls.{IsTidied}
-use Rattle.message_log.specs.Picture.{Picture as LogPicture}
+use Rattle.message_log.specs.Picture.{Picture as LogPicture, KeeperPicture, keeper_of}
 use Rattle.message_log.specs.Picture as pictures
 use Rattle.message_log.specs.declared.tidying.Tidied.{Tidied}
 use Rattle.message_log.specs.declared.tidying.Tidied.TheVariants.{Cut, Uncut, Unwritten}
@@ -89,14 +89,14 @@ module _ (old new : LogPicture) (plan : old.plan ≡ Some []) where
   refused fault wrote = nothing (answers.Refused fault) refl wrote
 
   -- a checkpoint is written, and whatever is tidied behind it
-  tidied : (how : Tidied) (before : List (List ℕ)) (written viewed : List ℕ) (first : Option (List Bool)) (faults : ℕ) (records : List (List ℕ)) (last : Option (List Bool)) (now : ℕ) →
-      first ≡ Some [] → IsTidied how before written viewed first faults records last now → last ≡ Some []
-  tidied Cut before written viewed first faults records last now is was = was.3 ∙ ap (λ (p : Option (List Bool)). plan_after (plan_after p)) is
-  tidied Uncut before written viewed first faults records last now is was = was.3 ∙ ap (λ (p : Option (List Bool)). plan_after (plan_after p)) is
-  tidied Unwritten before written viewed first faults records last now is was = was.2 ∙ ap plan_after is
+  tidied : (how : Tidied) (before : KeeperPicture) (written viewed : List ℕ) (later : KeeperPicture) →
+      before.plan ≡ Some [] → IsTidied how before written viewed later → later.plan ≡ Some []
+  tidied Cut before written viewed later is was = was.3 ∙ ap (λ (p : Option (List Bool)). plan_after (plan_after p)) is
+  tidied Uncut before written viewed later is was = was.3 ∙ ap (λ (p : Option (List Bool)). plan_after (plan_after p)) is
+  tidied Unwritten before written viewed later is was = was.2 ∙ ap plan_after is
 
   checkpointed : (answer : GroupAnswer) → shows_fault answer ≡ false → WroteCheckpoint old new → HasNotFailed answer new
-  checkpointed answer shown wrote = record { shown = shown; plan = tidied wrote.how _ _ _ (plan_after old.plan) _ _ new.plan _ (ap plan_after plan) wrote.tidied }
+  checkpointed answer shown wrote = record { shown = shown; plan = tidied wrote.how (record (keeper_of old) { plan = plan_after old.plan }) wrote.checkpoint wrote.view (keeper_of new) (ap plan_after plan) wrote.tidied }
 
   taken : (e : Event) (answer : GroupAnswer) → shows_fault answer ≡ false → WroteTaken e old new → HasNotFailed answer new
   taken (events.Checkpoint host clock) answer shown wrote = checkpointed answer shown wrote

@@ -17,7 +17,8 @@ use Rattle.group_model.specs.declared.events.GroupAnswer.{GroupAnswer}
 use Rattle.group_model.specs.declared.events.GroupAnswer.TheVariants as answers
 use Rattle.group_model.specs.Agreeing.{IsShortAsked, taker}
 use Rattle.group_model.specs.Plain.{Group}
-use Rattle.group_model.specs.Views.{is_passive, is_warm}
+use Rattle.ft_base.specs.Views.{is_passive}
+use Rattle.group_model.specs.Views.{is_warm}
 use Rattle.group_stands.specs.Going.{LogsGoOnBeside}
 use Rattle.group_stands.specs.Telling.{LogsTell}
 use Rattle.group_core.specs.Acting.{IsActed, IsTaken}

@@ -1,4 +1,4 @@
--- What the tests say of a core.
+-- A core that stands for some group, and an event that may come to it.
 use Rattle.std.specs.Prelude.{ℕ}
 use Rattle.ft_base.specs.Machine.{Machine}
 use Rattle.group_model.specs.declared.events.Event.{Event}

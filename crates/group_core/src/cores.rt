@@ -6,7 +6,6 @@ ghost use Rattle.ft_outside.specs.Keeping.{failing_next, plan_after, IsForetold}
 ghost use Rattle.message_log.specs.Calls.{IsStarted};
 ghost use Rattle.message_log.specs.Picture.{view_at};
 ghost use Rattle.group_model.specs.Agreeing.{Agrees};
-ghost use Rattle.group_model.specs.Changes.{first_of};
 ghost use Rattle.group_model.specs.Openings.{first_view, opening_group};
 ghost use Rattle.group_model.specs.Plain.{Group};
 ghost use Rattle.group_hosts.specs.Hosts.{HostPicture};
@@ -21,7 +20,7 @@ use ft_base::{
 };
 use ft_outside::{Keeper, MemKeeper};
 use ft_replica::Replica;
-use group_hosts::{GroupHost, act_at, host_of};
+use group_hosts::{Founding, GroupHost, act_at, host_of};
 use group_model::{Event, GroupAnswer, groups_grow, groups_stay_sound};
 use group_stands::{holdbacks_go_on, logs_go_on, replicas_go_on};
 use message_log::{Log, LogFault};
@@ -29,11 +28,10 @@ use std::alloc::Global;
 use std::marker::Model;
 use std::sync::ledger::Ledger;
 
-/// A group: its log, and its hosts by their numbers.
+/// A group: with what it was made, its log, and its hosts by their numbers.
 #[derive(Drop)]
 pub struct GroupCore<S: Servant, K: Keeper> {
-    style: Style,
-    opening: S,
+    founding: Founding<S>,
     log: Log<K>,
     hosts: Vec<GroupHost<S>>,
 }
@@ -43,22 +41,21 @@ impl<S: Servant, K: Keeper> Model for GroupCore<S, K> {
 
     ghost Value = { CorePicture };
 
-    ghost view = { λ c. record { style = c.style; kind = S.kind c.opening; opening = S.state c.opening; log = c.log; hosts = c.hosts.items } };
+    ghost view = { λ c. record { style = c.founding.style; kind = S.kind c.founding.opening; opening = S.state c.founding.opening; log = c.log; hosts = c.hosts.items } };
 }
 
 /// The hosts with which a group opens.
 #[tactic(auto, using(crate::proofs::Opens::none_yet, crate::proofs::Opens::one_more))]
 fn opening_hosts<S: Servant + Drop>(
     alloc: Global,
-    opening: &S,
-    style: Style,
+    founding: &Founding<S>,
     view: &View,
 ) -> Result<Vec<GroupHost<S>>, NoMemory>
-    ensures { IfOk result (λ hosts. AreOpening (S.kind opening.now) (S.state opening.now) style view.now hosts.items HOST_LIMIT) }
+    ensures { IfOk result (λ hosts. AreOpening (S.kind founding.now.opening) (S.state founding.now.opening) founding.now.style view.now hosts.items HOST_LIMIT) }
 {
     let mut hosts: Vec<GroupHost<S>> = Vec::new(alloc);
     for number in 0..HOST_LIMIT as u8 {
-        let host = GroupHost::opening(alloc, opening, style, view, HostNo(number))?;
+        let host = GroupHost::opening(alloc, founding, view, HostNo(number))?;
         hosts.push(host)?;
     }
     Ok(hosts)
@@ -70,21 +67,12 @@ fn first_view(style: Style, members: Members) -> View
 {
     let primary = match style {
         Style::Active => None,
-        Style::Cold | Style::Warm => first_of(&members),
+        Style::Cold | Style::Warm => members.first(),
     };
     View {
         version: Version(1),
         members,
         primary,
-    }
-}
-
-fn first_of(members: &Members) -> Option<HostNo>
-    ensures { result ≡ first_of members.now }
-{
-    match members.hosts() {
-        [] => None,
-        [first, ..] => Some(HostNo(*first)),
     }
 }
 
@@ -107,7 +95,9 @@ impl<S: Servant + Drop, K: Keeper> GroupCore<S, K> {
         ensures stands { IfOk result (λ core. Stands S.machine core (opening_group group.0 style (S.kind opening) (S.state opening) members)) }
         ensures foretold { IfOk result (λ core. IsForetold (K.plan keeper) false) }
         ensures planned { IfOk result (λ core. core.log.plan ≡ plan_after (K.plan keeper)) }
-        ensures refused { IfErr result (λ refused. IsStarted (first_view style members) (K.records keeper) (K.records refused.1) (K.plan keeper) (K.plan refused.1) (K.faults keeper) (K.faults refused.1) (Err refused.0)) }
+        ensures refused { IfErr result (λ refused. IsStarted (first_view style members)
+            (record { records = K.records keeper; plan = K.plan keeper; faults = K.faults keeper })
+            (record { records = K.records refused.1; plan = K.plan refused.1; faults = K.faults refused.1 }) (Err refused.0)) }
     {
         logs_go_on();
         replicas_go_on();
@@ -115,14 +105,14 @@ impl<S: Servant + Drop, K: Keeper> GroupCore<S, K> {
         let _number = group;
         let _limit = members.len();
         let view = first_view(style, members);
-        let hosts = match opening_hosts(alloc, &opening, style, &view) {
+        let founding = Founding { style, opening };
+        let hosts = match opening_hosts(alloc, &founding, &view) {
             Ok(hosts) => hosts,
             Err(NoMemory) => return Err((LogFault::NoMemory, keeper)),
         };
         match Log::new(alloc, keeper, view) {
             Ok(log) => Ok(GroupCore {
-                style,
-                opening,
+                founding,
                 log,
                 hosts,
             }),
@@ -150,15 +140,7 @@ impl<S: Servant + Drop, K: Keeper> GroupCore<S, K> {
         holdbacks_go_on();
         let at = host_of(&event);
         let host = &mut self.hosts[at.0 as usize];
-        act_at(
-            alloc,
-            self.style,
-            &mut self.log,
-            host,
-            &self.opening,
-            event,
-            steps,
-        )
+        act_at(alloc, &self.founding, &mut self.log, host, event, steps)
     }
 
     /// What the group's servant says of an operation: its parameters and its result; none where it has no
@@ -166,14 +148,14 @@ impl<S: Servant + Drop, K: Keeper> GroupCore<S, K> {
     pub fn signature(&self, op: &Name) -> Option<Signature>
         ensures { result ≡ (S.machine self.now.kind).signature op.now }
     {
-        self.opening.signature(op)
+        self.founding.opening.signature(op)
     }
 
     /// How the group's members share its work.
     pub fn style(&self) -> Style
         ensures { result ≡ self.now.style }
     {
-        self.style
+        self.founding.style
     }
 
     /// A host's replica; none where it isn't loaded.

@@ -23,4 +23,4 @@ mod trials;
 
 pub use cores::GroupCore;
 pub use laws::{cores_tell, unfailing_logs_show_no_fault};
-pub use running::run;
+pub use running::{is_short, run};

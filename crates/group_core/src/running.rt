@@ -1,29 +1,18 @@
 //! A list of events.
-ghost use Rattle.std.specs.Prelude.{◌≡◌, ◌<◌, ◌++◌, ◌∷◌, [], length, vec_len, vec_capacity, IfOk, OnErr};
+ghost use Rattle.std.specs.Prelude.{◌≡◌, ◌<◌, ◌++◌, ◌∷◌, [], length, IfOk, OnErr};
 ghost use Rattle.group_model.specs.Plain.{Group};
 ghost use Rattle.group_core.specs.Cores.{Stands};
 ghost use Rattle.group_core.specs.Running.{AlwaysAgree, GoesOn, HasRun, HasStopped, is_short, steps_of};
 
 use crate::cores::GroupCore;
-use ft_base::{NoMemory, Servant, Steps};
+use ft_base::{NoMemory, Servant, Steps, push_within};
 use ft_outside::Keeper;
 use group_model::{Event, GroupAnswer, calls_are_counted, groups_grow, groups_stay_sound};
 use std::alloc::Global;
 use std::sync::ledger::Ledger;
 
-/// Pushes where there is room.
-fn push_within<T: Drop>(items: &mut Vec<T>, item: T)
-    requires { vec_len items.old < vec_capacity items.old }
-    ensures items { items.new.items ≡ items.old.items ++ item ∷ [] }
-{
-    match items.push(item) {
-        Ok(()) => {}
-        Err(_) => unreachable!(),
-    }
-}
-
 /// Whether memory was wanted.
-fn is_short(answer: &GroupAnswer) -> bool
+pub fn is_short(answer: &GroupAnswer) -> bool
     ensures { result ≡ is_short answer.now }
 {
     match answer {

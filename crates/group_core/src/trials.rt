@@ -3,7 +3,6 @@ ghost use Rattle.std.specs.Prelude.{◌≡◌, ◌<◌, ◌∷◌, [], false, If
 ghost use Rattle.std.specs.List.{AllByRecursion};
 ghost use Rattle.ft_base.specs.Members.{AreDifferent};
 ghost use Rattle.ft_base.specs.declared.limits.TheConstants.{HOST_LIMIT};
-ghost use Rattle.group_model.specs.Views.{is_passive, is_warm};
 ghost use Rattle.group_core.specs.Running.{is_short};
 ghost use Rattle.group_core.specs.Trying.{IsSome, MayCome};
 
@@ -14,6 +13,7 @@ use ft_base::{
     Steps, Stop, Style, Tick, Version,
 };
 use ft_outside::MemKeeper;
+use group_hosts::is_warm;
 use group_model::{Asked, Event, GroupAnswer, Inner, Out, OutList};
 use group_stands::{logs_go_on, logs_tell};
 use std::alloc::Global;
@@ -282,15 +282,6 @@ pub fn ask<S: Servant + Drop, L: Ledger>(
     act(alloc, trial, event, steps)
 }
 
-fn is_passive(style: Style) -> bool
-    ensures { result ≡ is_passive style }
-{
-    match style {
-        Style::Cold | Style::Warm => true,
-        Style::Active => false,
-    }
-}
-
 /// The primary takes a checkpoint.
 #[tactic(auto, using(crate::proofs::Trying::may_checkpoint))]
 fn checkpoint<S: Servant + Drop, L: Ledger>(
@@ -305,7 +296,7 @@ fn checkpoint<S: Servant + Drop, L: Ledger>(
     let Some(host) = trial.core.log().newest().primary else {
         return Err(NoMemory);
     };
-    if host.0 >= 64 || !is_passive(trial.core.style()) {
+    if host.0 >= 64 || !trial.core.style().is_passive() {
         return Err(NoMemory);
     }
     let event = Event::Checkpoint {
@@ -313,15 +304,6 @@ fn checkpoint<S: Servant + Drop, L: Ledger>(
         clock: Tick(0),
     };
     act(alloc, trial, event, steps)
-}
-
-fn is_warm(style: Style) -> bool
-    ensures { result ≡ is_warm style }
-{
-    match style {
-        Style::Warm => true,
-        Style::Cold | Style::Active => false,
-    }
 }
 
 /// The primary of a warm group sends an update.

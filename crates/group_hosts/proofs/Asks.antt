@@ -21,15 +21,17 @@ use Rattle.group_model.specs.Decisions.{known_then, request_in}
 use Rattle.group_model.specs.Events.{turn_of, is_log_fault}
 use Rattle.group_model.specs.Lean as leans
 use Rattle.group_model.specs.Plain.{Common, Host, Group, blank, from, start_of, caught_up, caught_up_to, put, with_ran}
-use Rattle.group_model.specs.Serving.{joined, calls_behind, served, served_or, served_caught_up, unless_bad, asked_at, on_request}
-use Rattle.group_model.specs.Turns.{Turn, costing}
+use Rattle.group_model.specs.Serving.{joined, served, served_or, served_caught_up, unless_bad, asked_at, on_request}
+use Rattle.group_model.specs.Turns.{Turn}
 use Rattle.group_model.specs.Views.{newest}
 use Rattle.group_stands.specs.Going.{BlanksStand}
 use Rattle.group_stands.specs.Holding.{HeldOrder, NothingIsHeld}
 use Rattle.group_stands.specs.Stands.{LogStands}
 use Rattle.group_stands.specs.Telling.{LogsTell}
 use Rattle.decision_table.specs.Passing.{IsAsked, MayBeServed}
-use Rattle.group_hosts.specs.Asking.{Parts, parts, PartsStand, CanEnter, HasStoppedAt, IsAnswered, IsEntered, settled, entered_told}
+use Rattle.passive_dispatch.specs.declared.serving.Replied.{Replied}
+use Rattle.active_sequencer.specs.Sequences.{replied_as}
+use Rattle.group_hosts.specs.Asking.{Parts, parts, PartsStand, CanEnter, HasStoppedAt, IsEntered, settled, unless_stopped, entered_told}
 use Rattle.group_hosts.specs.Hosts.{HostPicture, HostStands, IsHere, Shared, forgotten}
 use Rattle.group_hosts.specs.Turning.{seen, IsTaken, IsShort, IsTurn}
 use Rattle.group_hosts.specs.declared.entering.Entered.{Entered}
@@ -103,26 +105,26 @@ module _ (machines : ℕ → Machine) (g : Group) (s : Shared) (host : HostNo) (
     host_of_parts : (d : Common) (x : Host) (now : Parts) → PartsStand machines d x now → x.up ≡ h.up → x.known ≡ h'.known → HostStands machines d (after now.replica now.held) x
     host_of_parts d x now stand up known = record { up = here.host.up ∙ sym up; known = sym known; replica = stand.replica; held = stand.held }
 
-    done_host : BlanksStand → NothingIsHeld → (t : Turn) (decision : Decision) (answer : Option Answer) (out : List Out) (before : ℕ) (now : Parts) → IsShaped (caught_up c h') t →
-        IsAnswered machines (costing (calls_behind c h') t) decision answer out before now → HostStands machines t.common (settled (Done decision answer out) (after now.replica now.held)) t.host
-    done_host blanks nothing t decision (Some answer) out before now (going shape) is = host_of_parts t.common t.host now is.stand shape.up shape.known
-    done_host blanks nothing t decision (Some answer) out before now (ended shape) is = let no = sym is.told ∙ shape.told in absurd cc
-    done_host blanks nothing t decision None out before now (going shape) is = let no = sym is.told ∙ shape.told in absurd cc
-    done_host blanks nothing t decision None out before now (ended shape) is =
+    done_host : BlanksStand → NothingIsHeld → (t : Turn) (decision : Decision) (answer : Option Answer) (out : List Out) (now : Parts) → IsShaped (caught_up c h') t →
+        PartsStand machines t.common t.host now → t.answer ≡ answers.Reply decision answer out → HostStands machines t.common (unless_stopped answer (after now.replica now.held)) t.host
+    done_host blanks nothing t decision (Some answer) out now (going shape) stand told = host_of_parts t.common t.host now stand shape.up shape.known
+    done_host blanks nothing t decision (Some answer) out now (ended shape) stand told = let no = sym told ∙ shape.told in absurd cc
+    done_host blanks nothing t decision None out now (going shape) stand told = let no = sym told ∙ shape.told in absurd cc
+    done_host blanks nothing t decision None out now (ended shape) stand told =
         subst (λ (x : Host). HostStands machines t.common (forgotten false (after now.replica now.held)) x) (sym shape.gone)
-        (forgot machines g s host p here blanks nothing t.common now.replica false is.stand.replica.kind)
+        (forgot machines g s host p here blanks nothing t.common now.replica false stand.replica.kind)
 
-    done_taken : BlanksStand → NothingIsHeld → (decision : Decision) (answer : Option Answer) (out : List Out) (before now : Parts) →
-        IsEntered machines c h' host.0 clock.0 request stop (Done decision answer out) before now →
-        IsTurn machines g (events.Request host clock asked stop) (answers.Reply decision answer out) before.steps (seen now.log (settled (Done decision answer out) (after now.replica now.held)) now.steps)
-    done_taken blanks nothing decision answer out before now is =
-        let fails = is_log_fault decision in
+    done_taken : BlanksStand → NothingIsHeld → (replied : Replied) (before now : Parts) →
+        IsEntered machines c h' host.0 clock.0 request stop (Done replied) before now →
+        IsTurn machines g (events.Request host clock asked stop) (replied_as replied) before.steps (seen now.log (settled (Done replied) (after now.replica now.held)) now.steps)
+    done_taken blanks nothing replied before now is =
+        let fails = is_log_fault replied.decision in
         let t = served (machines c.kind) (with_ran (length c.journal) c) (caught_up c h') host.0 clock.0 request stop fails in
         let shape = shaped (machines c.kind) (with_ran (length c.journal) c) (caught_up c h') host.0 clock.0 request stop fails in
-        let picture = settled (Done decision answer out) (after now.replica now.held) in
-        subst (λ (x : Turn). IsTaken machines x (answers.Reply decision answer out) before.steps (seen now.log picture now.steps)) (sym (passed_turn stop fails)) (record {
+        let picture = settled (Done replied) (after now.replica now.held) in
+        subst (λ (x : Turn). IsTaken machines x (replied_as replied) before.steps (seen now.log picture now.steps)) (sym (passed_turn stop fails)) (record {
           log = is.stand.log;
-          host = done_host blanks nothing t decision answer out before.steps now shape is;
+          host = done_host blanks nothing t replied.decision replied.answer replied.out now shape is.stand is.told;
           told = is.told;
           calls = is.calls;
         })
@@ -219,6 +221,6 @@ module _ (machines : ℕ → Machine) (g : Group) (s : Shared) (host : HostNo) (
     -- whatever came of it
     pub entered_taken : BlanksStand → NothingIsHeld → (entered : Entered) (before now : Parts) → before ≡ parts s.log p.replica p.held before.steps → IsEntered machines c h' host.0 clock.0 request stop entered before now →
         IsTurn machines g (events.Request host clock asked stop) (entered_told entered) before.steps (seen now.log (settled entered (after now.replica now.held)) now.steps)
-    entered_taken blanks nothing (Done decision answer out) before now at is = done_taken blanks nothing decision answer out before now is
+    entered_taken blanks nothing (Done replied) before now at is = done_taken blanks nothing replied before now is
     entered_taken blanks nothing Short before now at is = short_taken before now at is
     entered_taken blanks nothing Unrun before now at is = unrun_taken blanks nothing before now is

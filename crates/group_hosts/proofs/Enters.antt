@@ -1,16 +1,13 @@
 -- A host catches up and serves a request.
 use Rattle.std.proofs.Common.{◌≡◌, ℕ, ◌+◌, inl, inr, ◌⊎◌, max, Bool, true, false, List, [], length, refl, sym, subst, ap, ◌∙◌, arith}
-use Rattle.std.specs.Prelude.{Option}
 use Rattle.ft_base.specs.Machine.{Machine}
 use Rattle.ft_base.specs.declared.decisions.Decision.{Decision}
 use Rattle.ft_base.specs.declared.decisions.Decision.TheVariants as decisions
 use Rattle.ft_base.specs.declared.decisions.Stop.{Stop}
 use Rattle.ft_base.specs.declared.requests.Request.{Request}
 use Rattle.ft_base.specs.declared.views.Style.{Style}
-use Rattle.sys_faults.specs.declared.answers.Answer.{Answer}
 use Rattle.message_log.specs.Picture.{Picture as LogPicture}
 use Rattle.ft_replica.specs.Picture.{Picture as ReplicaPicture}
-use Rattle.group_model.specs.declared.events.Out.{Out}
 use Rattle.group_model.specs.Events.{is_log_fault}
 use Rattle.group_model.specs.Plain.{Common, Host, nowhere, caught_up, caught_up_to, with_ran}
 use Rattle.group_model.specs.Serving.{joined, calls_behind, served, served_caught_up}
@@ -21,7 +18,8 @@ use Rattle.failover_engine.specs.Catching as catching
 use Rattle.passive_dispatch.specs.Served.{Seen, CanServe, IsUnrun, IsServed, IsWritten, IsWrittenAs, shows_fault}
 use Rattle.passive_dispatch.specs.Served as passive
 use Rattle.active_sequencer.specs.Sequences.{IsSequenced}
-use Rattle.active_sequencer.specs.declared.sequencing.Sequenced.TheVariants as sequenced
+use Rattle.passive_dispatch.specs.declared.serving.Replied.{Replied}
+use Rattle.passive_dispatch.specs.declared.serving.Served.TheVariants as serves
 use Rattle.group_hosts.specs.Asking.{Parts, parts, CanCatchUp, CanEnter, HasComeTo, HasStoppedAt, HasStopped, IsAnswered, IsEntered}
 use Rattle.group_hosts.specs.declared.entering.Entered.TheVariants.{Done, Short, Unrun}
 use Rattle.group_hosts.proofs.Holds.{all_to_come}
@@ -95,16 +93,17 @@ module _ (machines : ℕ → Machine) (c : Common) (h : Host) (style : Style) (k
       let ran = come.stand.log.sound.numbers.ran in
       law c.journal c1.ran (length c.journal) h1.holdback now.held come.stand.held (omega (arith, ran))
 
-  pub answered : FurthestHoldNothing → NothingIsHeld → (host clock : ℕ) (stop : Stop) (decision : Decision) (answer : Option Answer) (out : List Out) (middle now : Parts) →
+  pub answered : FurthestHoldNothing → NothingIsHeld → (host clock : ℕ) (stop : Stop) (replied : Replied) (middle now : Parts) →
       HasComeTo machines c h middle (length c.journal) → middle.steps ≡ before.steps + calls_behind c h → now.held ≡ middle.held →
-      IsSequenced machines c1 h1 host clock request stop (sequenced.Done decision answer out) (seen_of middle) (seen_of now) →
-      IsEntered machines c h host clock request stop (Done decision answer out) before now
-  answered furthest_law nothing host clock stop decision answer out middle now come counted held is =
+      IsSequenced machines c1 h1 host clock request stop (serves.Done replied) (seen_of middle) (seen_of now) →
+      IsEntered machines c h host clock request stop (Done replied) before now
+  answered furthest_law nothing host clock stop replied middle now come counted held is =
+      let decision = replied.decision in
       let none = furthest furthest_law middle come in
       let t = served (machines c.kind) c1 h1 host clock request stop (shows_fault decision) in
       let left : t.host.holdback ≡ [] = nothing_held h1 t (shaped (machines c.kind) c1 h1 host clock request stop (shows_fault decision)) none.0 in
       let holds = nothing t.common.journal t.common.ran t.host.place.position t.host.holdback left in
-      subst (λ (b : Bool). IsAnswered machines (served_caught_up (machines c.kind) c h host clock request stop b) decision answer out before.steps now) (same_fault decision) (record {
+      subst (λ (b : Bool). IsAnswered machines (served_caught_up (machines c.kind) c h host clock request stop b) replied before.steps now) (same_fault decision) (record {
         stand = record { log = is.log; replica = is.replica; held = subst (λ (o : List HeldOrder). HoldStands t.common.journal t.common.ran t.host.place.position t.host.holdback o) (sym (held ∙ none.1)) holds };
         told = is.told;
         calls = omega (arith, is.calls, counted);
@@ -113,7 +112,7 @@ module _ (machines : ℕ → Machine) (c : Common) (h : Host) (style : Style) (k
   -- no memory was found, and the replica is loaded still: nothing has changed since it caught up
   pub short_of : (host clock : ℕ) (stop : Stop) (middle now : Parts) → HasComeTo machines c h middle (length c.journal) → middle.steps ≡ before.steps + calls_behind c h →
       now.held ≡ middle.held → now.replica.loaded ≡ true →
-      IsSequenced machines c1 h1 host clock request stop sequenced.NoMemory (seen_of middle) (seen_of now) → IsEntered machines c h host clock request stop Short before now
+      IsSequenced machines c1 h1 host clock request stop serves.NoMemory (seen_of middle) (seen_of now) → IsEntered machines c h host clock request stop Short before now
   short_of host clock stop middle now come counted held loaded (inl same) =
       let is : now ≡ middle =
       ap (λ (s : Seen). parts s.log s.replica now.held s.steps) same ∙ ap (λ (o : List HeldOrder). parts middle.log middle.replica o middle.steps) held in
@@ -124,7 +123,7 @@ module _ (machines : ℕ → Machine) (c : Common) (h : Host) (style : Style) (k
   -- the replica is blank: the request joined
   pub unrun_of : FurthestHoldNothing → NothingIsHeld → (host clock : ℕ) (stop : Stop) (middle now : Parts) → HasComeTo machines c h middle (length c.journal) →
       middle.steps ≡ before.steps + calls_behind c h → now.held ≡ middle.held → now.replica.loaded ≡ false →
-      IsSequenced machines c1 h1 host clock request stop sequenced.NoMemory (seen_of middle) (seen_of now) → IsEntered machines c h host clock request stop Unrun before now
+      IsSequenced machines c1 h1 host clock request stop serves.NoMemory (seen_of middle) (seen_of now) → IsEntered machines c h host clock request stop Unrun before now
   unrun_of furthest_law nothing host clock stop middle now come counted held blank_now (inl same) =
       let still : now.replica.loaded ≡ middle.replica.loaded = ap (λ (s : Seen). s.replica.loaded) same in
       let no : false ≡ true = sym blank_now ∙ still ∙ come.stand.replica.loaded ∙ come.loaded in absurd cc
@@ -142,11 +141,3 @@ module _ (machines : ℕ → Machine) (c : Common) (h : Host) (style : Style) (k
         };
         calls = omega (arith, unrun.1.calls, counted);
       }
-
--- ---- what was written
-
--- what catching up leaves of the keeper
-abbrev Beside : LogPicture → LogPicture → Type 0
-Beside old new = new ≡ record old { table = new.table }
-
--- memory was wanted before the write, or behind it

@@ -19,7 +19,7 @@ use Rattle.group_model.specs.Lean as leans
 use Rattle.group_model.specs.Plain.{Common, Host, Group, blank, from, with_number, reach, loaded_at, put, with_ran}
 use Rattle.group_model.specs.Transfers.{on_state, on_update, on_order, brought_to, ignoring, holding, ordered}
 use Rattle.group_model.specs.Turns.{Turn, unchanged}
-use Rattle.group_model.specs.Views.{is_passive}
+use Rattle.ft_base.specs.Views.{is_passive}
 use Rattle.group_stands.specs.Going.{BlanksStand}
 use Rattle.group_stands.specs.Holding.{HeldOrder, HoldStands, NothingIsHeld}
 use Rattle.group_stands.specs.Stands.{LogStands, ReplicaStands}

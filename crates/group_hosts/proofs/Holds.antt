@@ -7,7 +7,8 @@ use Rattle.ft_base.specs.Machine.{Machine}
 use Rattle.ft_base.specs.Journal.{Entry}
 use Rattle.group_model.specs.Agreeing.{IsSoundHost}
 use Rattle.group_model.specs.Plain.{Common, Host, from, with_ran}
-use Rattle.group_model.specs.Views.{newest, is_passive}
+use Rattle.ft_base.specs.Views.{is_passive}
+use Rattle.group_model.specs.Views.{newest}
 use Rattle.group_stands.specs.Holding.{HeldOrder, IsHeld, HoldStands, indices, orders_from}
 use Rattle.group_hosts.specs.Hosts.{HostPicture, HostStands}
 

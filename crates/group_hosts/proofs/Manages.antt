@@ -131,10 +131,10 @@ managed_host replicas machines c h p t shape stands = go shape.grown where
 
 pub managed_taken : ReplicasGoOnViewed → (machines : ℕ → Machine) (g : Group) (s : Shared) (change : Change) (p : HostPicture) → IsHere machines g.common (g.hosts (host_of_change change).0) s p →
     (answer : GroupAnswer) (steps : ℕ) (log : LogPicture) → IsManaged machines g.common (g.hosts (host_of_change change).0) change answer log → IsTurn machines g (events.Manage change) answer steps (seen log p steps)
-managed_taken replicas machines g s change p here answers.NoMemory steps log stands = record {
+managed_taken replicas machines g s change p here answers.NoMemory steps log left = record {
   left = g;
   lean = leans.nothing refl;
-  log = stands;
+  log = left.1;
   host = here.host;
   sound = here.sound;
   calls = omega arith;

@@ -14,15 +14,18 @@ use Rattle.group_model.specs.declared.events.GroupAnswer.TheVariants.{Reply}
 use Rattle.group_model.specs.declared.events.Inner.{Inner}
 use Rattle.group_model.specs.declared.events.Inner.TheVariants as inners
 use Rattle.group_model.specs.declared.events.Out.{Out}
-use Rattle.group_model.specs.Admissions.{Admission, Expired, Same, Other, Full, New, admission}
+use Rattle.ft_base.specs.Admissions.{admission}
+use Rattle.ft_base.specs.declared.admissions.Admission.{Admission}
+use Rattle.ft_base.specs.declared.admissions.Admission.TheVariants.{Expired, Same, Other, Full, New}
 use Rattle.group_model.specs.Plain.{Common, Host, with_ran}
 use Rattle.group_model.specs.Serving.{joined, accepted, admitted, orders, repeated}
 use Rattle.group_model.specs.Turns.{Turn}
-use Rattle.group_model.specs.Views.{host_no, is_passive, sent_to, to_others, without}
+use Rattle.ft_base.specs.Views.{is_passive}
+use Rattle.group_model.specs.Views.{host_no, sent_to, to_others, without}
 use Rattle.passive_dispatch.specs.Served.{Seen, IsServed, shows_fault}
+use Rattle.passive_dispatch.specs.declared.serving.Replied.{Replied}
 use Rattle.passive_dispatch.specs.declared.serving.Served.TheVariants as serves
 use Rattle.active_sequencer.specs.Sequences.{IsSequenced}
-use Rattle.active_sequencer.specs.declared.sequencing.Sequenced.TheVariants as sequenced
 
 -- ---- to each other member
 
@@ -71,10 +74,12 @@ quiet_admitted m c h host now q stop fails Full passive = record { decision = _;
 quiet_admitted m c h host now q stop true New passive = record { decision = _; answer = _; told = refl }
 quiet_admitted m c h host now q stop false New passive = quiet_accepted m c h host now q stop passive
 
-pub passive_done : (machines : ℕ → Machine) (c : Common) (h : Host) (host clock : ℕ) (q : Request) (stop : Stop) (d : Decision) (a : Option Answer) (before now : Seen) → is_passive c.style ≡ true →
-    IsServed machines c h host clock q stop (serves.Done d a) before now → IsSequenced machines c h host clock q stop (sequenced.Done d a []) before now
-passive_done machines c h host clock q stop d a before now passive is =
+pub passive_done : (machines : ℕ → Machine) (c : Common) (h : Host) (host clock : ℕ) (q : Request) (stop : Stop) (r : Replied) (before now : Seen) → is_passive c.style ≡ true →
+    IsServed machines c h host clock q stop (serves.Done r) before now → IsSequenced machines c h host clock q stop (serves.Done r) before now
+passive_done machines c h host clock q stop r before now passive is =
+    let d = r.decision in
+    let a = r.answer in
     let quiet = quiet_admitted (machines c.kind) c h host (max clock c.time) q stop (shows_fault d) (admission c.journal (max clock c.time) q) passive in
     let same : Reply d a is.out ≡ Reply quiet.decision quiet.answer [] = sym is.told ∙ quiet.told in
     let none : is.out ≡ [] = cc in
-    record { log = is.log; replica = is.replica; told = is.told ∙ ap (Reply d a) none; calls = is.calls }
+    record { log = is.log; replica = is.replica; told = is.told ∙ ap (Reply d a) (none ∙ sym is.none); calls = is.calls }

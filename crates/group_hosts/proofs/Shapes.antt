@@ -12,7 +12,9 @@ use Rattle.ft_base.specs.declared.requests.Request.{Request}
 use Rattle.sys_faults.specs.declared.answers.Answer.{Answer}
 use Rattle.group_model.specs.declared.events.GroupAnswer.TheVariants.{Reply}
 use Rattle.group_model.specs.declared.events.Out.{Out}
-use Rattle.group_model.specs.Admissions.{Admission, Expired, Same, Other, Full, New, admission}
+use Rattle.ft_base.specs.Admissions.{admission}
+use Rattle.ft_base.specs.declared.admissions.Admission.{Admission}
+use Rattle.ft_base.specs.declared.admissions.Admission.TheVariants.{Expired, Same, Other, Full, New}
 use Rattle.group_model.specs.Openings.{opens_loaded, opening_host}
 use Rattle.group_model.specs.Plain.{Common, Host, blank, loaded_at, nowhere}
 use Rattle.group_model.specs.Serving.{accepted, written, admitted, served}

@@ -1,7 +1,6 @@
 -- A request that no row before the journal refuses: its host catches up, and then the journal is asked.
 use Rattle.std.specs.Prelude.{◌≡◌, ℕ, ◌+◌, ◌≤◌, ◌⊎◌, max, true, false, List, length, Option, Some, None}
 use Rattle.ft_base.specs.Machine.{Machine, Fits}
-use Rattle.ft_base.specs.declared.decisions.Decision.{Decision}
 use Rattle.ft_base.specs.declared.decisions.Stop.{Stop}
 use Rattle.ft_base.specs.declared.limits.TheConstants.{ARGUMENTS_LIMIT}
 use Rattle.ft_base.specs.declared.requests.Request.{Request}
@@ -10,9 +9,9 @@ use Rattle.sys_faults.specs.declared.answers.Answer.{Answer}
 use Rattle.message_log.specs.Picture.{Picture as LogPicture}
 use Rattle.ft_replica.specs.Picture.{Picture as ReplicaPicture}
 use Rattle.group_model.specs.declared.events.GroupAnswer.{GroupAnswer}
-use Rattle.group_model.specs.declared.events.GroupAnswer.TheVariants.{Reply, NoMemory}
-use Rattle.group_model.specs.declared.events.Out.{Out}
-use Rattle.group_model.specs.Admissions.{admission, New}
+use Rattle.ft_base.specs.Admissions.{admission}
+use Rattle.ft_base.specs.declared.admissions.Admission.TheVariants.{New}
+use Rattle.group_model.specs.declared.events.GroupAnswer.TheVariants.{NoMemory}
 use Rattle.group_model.specs.Agreeing.{IsSoundHost}
 use Rattle.group_model.specs.Events.{is_log_fault}
 use Rattle.group_model.specs.Plain.{Common, Host, blank, start_of, caught_up_to, with_ran}
@@ -21,6 +20,8 @@ use Rattle.group_model.specs.Turns.{Turn}
 use Rattle.group_stands.specs.Holding.{HeldOrder, HoldStands}
 use Rattle.group_stands.specs.Stands.{LogStands, ReplicaStands, OpeningStands}
 use Rattle.passive_dispatch.specs.Served.{calls_by}
+use Rattle.passive_dispatch.specs.declared.serving.Replied.{Replied}
+use Rattle.active_sequencer.specs.Sequences.{replied_as}
 use Rattle.group_hosts.specs.Hosts.{HostPicture, forgotten}
 use Rattle.group_hosts.specs.Keeping.{WroteBy, WroteNothing, Wrote}
 use Rattle.group_hosts.specs.declared.entering.Entered.{Entered}
@@ -76,9 +77,9 @@ pub record CanEnter (machines : ℕ → Machine) (c : Common) (h : Host) (its_st
   pub short : length request.args ≤ ARGUMENTS_LIMIT
 
 -- the parts, the decision, the answer, what is sent and the servant calls are this turn's
-pub record IsAnswered (machines : ℕ → Machine) (t : Turn) (decision : Decision) (answer : Option Answer) (out : List Out) (before : ℕ) (now : Parts) : Type 0 where
+pub record IsAnswered (machines : ℕ → Machine) (t : Turn) (replied : Replied) (before : ℕ) (now : Parts) : Type 0 where
   pub stand : PartsStand machines t.common t.host now
-  pub told : t.answer ≡ Reply decision answer out
+  pub told : t.answer ≡ replied_as replied
   pub calls : now.steps ≡ before + t.calls
 
 -- the request was new and joined, and no memory was found to run it, or for the copy of its outcome
@@ -88,26 +89,29 @@ pub record HasJoinedUnrun (machines : ℕ → Machine) (c : Common) (h : Host) (
   pub calls : now.steps ≤ before + (calls_behind c h + calls_by stop)
 
 abbrev pub IsEntered : (ℕ → Machine) → Common → Host → ℕ → ℕ → Request → Stop → Entered → Parts → Parts → Type 0
-IsEntered machines c h host clock request stop (Done decision answer out) before now =
-    IsAnswered machines (served_caught_up (machines c.kind) c h host clock request stop (is_log_fault decision)) decision answer out before.steps now
+IsEntered machines c h host clock request stop (Done replied) before now =
+    IsAnswered machines (served_caught_up (machines c.kind) c h host clock request stop (is_log_fault replied.decision)) replied before.steps now
 IsEntered machines c h host clock request stop Short before now = HasStopped machines c h before now
 IsEntered machines c h host clock request stop Unrun before now = HasJoinedUnrun machines c h clock request stop before.steps now
 
 abbrev pub WroteEntered : Entered → LogPicture → LogPicture → Type 0
-WroteEntered (Done decision answer out) old new = WroteBy decision old new
+WroteEntered (Done replied) old new = WroteBy replied.decision old new
 WroteEntered Short old new = WroteNothing old new ⊎ Wrote old new
 WroteEntered Unrun old new = WroteNothing old new ⊎ Wrote old new
 
 -- ---- the host behind it
 
 -- a host that stopped forgets everything, and is down; one that couldn't run the request is blank, and up
+abbrev pub unless_stopped : Option Answer → HostPicture → HostPicture
+unless_stopped (Some answer) host = host
+unless_stopped None host = forgotten false host
+
 abbrev pub settled : Entered → HostPicture → HostPicture
-settled (Done decision (Some answer) out) host = host
-settled (Done decision None out) host = forgotten false host
+settled (Done replied) host = unless_stopped replied.answer host
 settled Short host = host
 settled Unrun host = forgotten true host
 
 abbrev pub entered_told : Entered → GroupAnswer
-entered_told (Done decision answer out) = Reply decision answer out
+entered_told (Done replied) = replied_as replied
 entered_told Short = NoMemory
 entered_told Unrun = NoMemory

@@ -5,7 +5,7 @@ use Rattle.ft_base.specs.declared.decisions.Decision.TheVariants as decisions
 use Rattle.ft_outside.specs.Keeping.{plan_after, IsForetold}
 use Rattle.ft_outside.specs.Outside.{next_count}
 use Rattle.message_log.specs.Calls.{IsTidied}
-use Rattle.message_log.specs.Picture.{Picture as LogPicture}
+use Rattle.message_log.specs.Picture.{Picture as LogPicture, keeper_of}
 use Rattle.message_log.specs.declared.tidying.Tidied.{Tidied}
 use Rattle.group_model.specs.declared.changes.ManageFault.{ManageFault}
 use Rattle.group_model.specs.declared.changes.ManageFault.TheVariants as manage_faults
@@ -37,7 +37,7 @@ pub record WroteCheckpoint (old new : LogPicture) : Type 0 where
   pub checkpoint : List ℕ
   pub view : List ℕ
   pub how : Tidied
-  pub tidied : IsTidied how old.records checkpoint view (plan_after old.plan) old.faults new.records new.plan new.faults
+  pub tidied : IsTidied how (record (keeper_of old) { plan = plan_after old.plan }) checkpoint view (keeper_of new)
 
 -- by what was decided of a request
 abbrev pub WroteBy : Decision → LogPicture → LogPicture → Type 0

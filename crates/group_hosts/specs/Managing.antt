@@ -1,5 +1,5 @@
 -- What a change of members leaves of a group's log.
-use Rattle.std.specs.Prelude.{◌≡◌, ℕ, ◌<◌}
+use Rattle.std.specs.Prelude.{◌≡◌, ℕ, ◌<◌, None}
 use Rattle.ft_base.specs.Machine.{Machine}
 use Rattle.ft_base.specs.declared.limits.TheConstants.{HOST_LIMIT}
 use Rattle.ft_base.specs.declared.views.Style.{Style}
@@ -10,8 +10,9 @@ use Rattle.group_model.specs.Events.{shows_fault}
 use Rattle.group_model.specs.Plain.{Common}
 use Rattle.group_model.specs.Turns.{Turn}
 use Rattle.group_model.specs.declared.changes.Change.{Change}
-use Rattle.group_model.specs.Changes.{on_manage, host_of_change}
+use Rattle.group_model.specs.Changes.{change_rows, first_fault, on_manage, host_of_change}
 use Rattle.group_model.specs.Plain.{Host}
+use Rattle.group_model.specs.Views.{newest_view}
 use Rattle.group_stands.specs.Stands.{LogStands}
 
 -- a group of this style, its log, and a change of a host that there can be
@@ -25,7 +26,8 @@ pub record Changes (machines : ℕ → Machine) (t : Turn) (answer : GroupAnswer
   pub log : LogStands machines t.common its_log
   pub told : t.answer ≡ answer
 
--- which leaves its host as it was; or memory was wanted, and the log stands for the same group
+-- which leaves its host as it was; or memory was wanted for a change that no row refuses, and the log stands for
+-- the same group
 abbrev pub IsManaged : (ℕ → Machine) → Common → Host → Change → GroupAnswer → LogPicture → Type 0
-IsManaged machines c h change NoMemory log = LogStands machines c log
+IsManaged machines c h change NoMemory log = (first_fault (change_rows c.style (newest_view c) change) ≡ None) × LogStands machines c log
 IsManaged machines c h change answer log = Changes machines (on_manage c h change (shows_fault answer)) answer log

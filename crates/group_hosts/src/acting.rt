@@ -8,13 +8,15 @@ ghost use Rattle.group_hosts.specs.Hosts.{IsHere, shared};
 ghost use Rattle.group_hosts.specs.Keeping.{WroteFor};
 ghost use Rattle.group_hosts.specs.Turning.{IsTurn, seen};
 
+use crate::founding::Founding;
 use crate::hosts::GroupHost;
 use crate::managing::manage;
-use ft_base::{HostNo, Servant, Steps, Style};
+use ft_base::{HostNo, Servant, Steps};
 use ft_outside::Keeper;
 use group_model::{Change, Event, GroupAnswer};
 use group_stands::views_join;
 use message_log::Log;
+use passive_dispatch::Arrival;
 use std::alloc::Global;
 use std::sync::ledger::Ledger;
 
@@ -49,18 +51,17 @@ fn host_of_change(change: &Change) -> HostNo
     }
 }
 
-/// Acts an event at its host, with the group's log and the servant with which the group was made.
+/// Acts an event at its host, with the group's log and that with which the group was made.
 pub fn act_at<S: Servant + Drop, K: Keeper, L: Ledger>(
     alloc: Global,
-    style: Style,
+    founding: &Founding<S>,
     log: &mut Log<K>,
     host: &mut GroupHost<S>,
-    opening: &S,
     event: Event,
     steps: &mut Steps<L>,
 ) -> GroupAnswer
-    requires { (g : Group) × IsHere S.machine g.common (g.hosts (host_of event)) (shared style (S.kind opening.now) (S.state opening.now) log.old) host.old × Agrees (S.machine g.common.kind) event g }
-    ensures turn { (g : Group) → IsHere S.machine g.common (g.hosts (host_of event)) (shared style (S.kind opening.now) (S.state opening.now) log.old) host.old → Agrees (S.machine g.common.kind) event g →
+    requires { (g : Group) × IsHere S.machine g.common (g.hosts (host_of event)) (shared founding.now.style (S.kind founding.now.opening) (S.state founding.now.opening) log.old) host.old × Agrees (S.machine g.common.kind) event g }
+    ensures turn { (g : Group) → IsHere S.machine g.common (g.hosts (host_of event)) (shared founding.now.style (S.kind founding.now.opening) (S.state founding.now.opening) log.old) host.old → Agrees (S.machine g.common.kind) event g →
         IsTurn S.machine g event result steps.old (seen log.new host.new steps.new) }
     ensures wrote { WroteFor event result log.old log.new }
 {
@@ -71,7 +72,14 @@ pub fn act_at<S: Servant + Drop, K: Keeper, L: Ledger>(
             clock,
             asked,
             stop,
-        } => host.ask(alloc, style, log, opening, at, clock, asked, stop, steps),
+        } => {
+            let arrival = Arrival {
+                host: at,
+                clock,
+                stop,
+            };
+            host.ask(alloc, founding, log, arrival, asked, steps)
+        }
         Event::View { host: _, version } => host.hear_view(version),
         Event::State {
             host: _,
@@ -92,9 +100,9 @@ pub fn act_at<S: Servant + Drop, K: Keeper, L: Ledger>(
         Event::Crash(_) => host.crash(),
         Event::Restart(_) => host.restart(),
         Event::Checkpoint { host: at, clock } => {
-            host.checkpoint(alloc, style, log, opening, at, clock, steps)
+            host.checkpoint(alloc, founding, log, at, clock, steps)
         }
-        Event::SendUpdate(at) => host.send_update(alloc, log, opening, at, steps),
-        Event::Manage(change) => manage(alloc, style, log, change),
+        Event::SendUpdate(at) => host.send_update(alloc, log, &founding.opening, at, steps),
+        Event::Manage(change) => manage(alloc, founding.style, log, change),
     }
 }

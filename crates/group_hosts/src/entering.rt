@@ -2,33 +2,26 @@
 ghost use Rattle.std.specs.Prelude.{◌≡◌, ◌+◌, length, OnOk, OnErr};
 ghost use Rattle.group_model.specs.Plain.{Common, Host};
 ghost use Rattle.group_model.specs.Serving.{calls_behind};
-ghost use Rattle.group_model.specs.Views.{is_passive};
 ghost use Rattle.group_hosts.specs.Asking.{parts, CanCatchUp, CanEnter, HasComeTo, HasStopped, IsEntered, WroteEntered};
 ghost use Rattle.passive_dispatch.specs.Served.{seen, CanServe, IsWritten};
-ghost use Rattle.active_sequencer.specs.Sequences.{IsSequenced, served_of};
+ghost use Rattle.active_sequencer.specs.Sequences.{IsSequenced};
 
-use active_sequencer::{Holdback, Sequenced};
+use crate::founding::{Founding, Progress};
 use failover_engine::catch_up;
-use ft_base::{Decision, HostNo, NoMemory, Request, Servant, Steps, Stop, Style, Tick, Version};
+use ft_base::{NoMemory, Request, Servant, Steps, Style};
 use ft_outside::Keeper;
 use ft_replica::Replica;
-use group_model::OutList;
 use group_stands::{holdbacks_go_on, logs_tell, repeats_are_answered};
 use message_log::Log;
-use passive_dispatch::Served;
+use passive_dispatch::{Arrival, Replied, Served};
 use std::alloc::Global;
 use std::sync::ledger::Ledger;
-use sys_faults::Answer;
 
 /// What came of a request.
 #[derive(Drop)]
 pub enum Entered {
-    /// It was decided so; a host that stopped has no answer, and its replica is blank.
-    Done {
-        decision: Decision,
-        answer: Option<Answer>,
-        out: OutList,
-    },
+    /// The replica of a host that stopped is blank.
+    Done(Replied),
     /// There was no memory before the request could join.
     Short,
     /// The request joined, and there was no memory to run it; the replica is blank.
@@ -39,35 +32,25 @@ pub enum Entered {
 pub(crate) fn catch_up_here<S: Servant + Drop, K: Keeper, L: Ledger>(
     alloc: Global,
     log: &mut Log<K>,
-    replica: &mut Replica<S>,
-    holdback: &mut Holdback,
+    progress: &mut Progress<S>,
     opening: &S,
     steps: &mut Steps<L>,
 ) -> Result<(), NoMemory>
-    requires { (c : Common) × (h : Host) × CanCatchUp S.machine c h (S.kind opening.now) (S.state opening.now) (parts log.old replica.old holdback.old steps.old) }
-    ensures caught_up { OnOk result ((c : Common) (h : Host) → CanCatchUp S.machine c h (S.kind opening.now) (S.state opening.now) (parts log.old replica.old holdback.old steps.old) →
-        HasComeTo S.machine c h (parts log.new replica.new holdback.new steps.new) (length c.journal)) }
-    ensures counted { OnOk result ((c : Common) (h : Host) → CanCatchUp S.machine c h (S.kind opening.now) (S.state opening.now) (parts log.old replica.old holdback.old steps.old) →
+    requires { (c : Common) × (h : Host) × CanCatchUp S.machine c h (S.kind opening.now) (S.state opening.now) (parts log.old progress.old.replica progress.old.holdback steps.old) }
+    ensures caught_up { OnOk result ((c : Common) (h : Host) → CanCatchUp S.machine c h (S.kind opening.now) (S.state opening.now) (parts log.old progress.old.replica progress.old.holdback steps.old) →
+        HasComeTo S.machine c h (parts log.new progress.new.replica progress.new.holdback steps.new) (length c.journal)) }
+    ensures counted { OnOk result ((c : Common) (h : Host) → CanCatchUp S.machine c h (S.kind opening.now) (S.state opening.now) (parts log.old progress.old.replica progress.old.holdback steps.old) →
         steps.new ≡ steps.old + calls_behind c h) }
-    ensures stopped { OnErr result ((c : Common) (h : Host) → CanCatchUp S.machine c h (S.kind opening.now) (S.state opening.now) (parts log.old replica.old holdback.old steps.old) →
-        HasStopped S.machine c h (parts log.old replica.old holdback.old steps.old) (parts log.new replica.new holdback.new steps.new)) }
+    ensures stopped { OnErr result ((c : Common) (h : Host) → CanCatchUp S.machine c h (S.kind opening.now) (S.state opening.now) (parts log.old progress.old.replica progress.old.holdback steps.old) →
+        HasStopped S.machine c h (parts log.old progress.old.replica progress.old.holdback steps.old) (parts log.new progress.new.replica progress.new.holdback steps.new)) }
     ensures rest { log.new ≡ record log.old { table = log.new.table } }
 {
     holdbacks_go_on();
-    let caught = catch_up(alloc, log, replica, opening, steps);
-    holdback.drop_below(replica.position());
+    let caught = catch_up(alloc, log, &mut progress.replica, opening, steps);
+    progress.holdback.drop_below(progress.replica.position());
     match caught {
         Ok(_count) => Ok(()),
         Err(NoMemory) => Err(NoMemory),
-    }
-}
-
-fn is_passive(style: Style) -> bool
-    ensures { result ≡ is_passive style }
-{
-    match style {
-        Style::Cold | Style::Warm => true,
-        Style::Active => false,
     }
 }
 
@@ -78,72 +61,52 @@ fn serve_by<S: Servant + Drop, K: Keeper, L: Ledger>(
     style: Style,
     log: &mut Log<K>,
     replica: &mut Replica<S>,
-    host: HostNo,
-    version: Version,
-    clock: Tick,
+    arrival: Arrival,
     request: Request,
-    stop: Stop,
     steps: &mut Steps<L>,
-) -> Sequenced
-    requires { (c : Common) × (h : Host) × CanServe S.machine c h.place version.0 request (seen log.old replica.old steps.old) × (style ≡ c.style) }
-    ensures served { (c : Common) (h : Host) → CanServe S.machine c h.place version.0 request (seen log.old replica.old steps.old) → style ≡ c.style →
-        IsSequenced S.machine c h host.0 clock.0 request stop result (seen log.old replica.old steps.old) (seen log.new replica.new steps.new) }
-    ensures written { IsWritten (served_of result) log.old version clock request log.new }
+) -> Served
+    requires { (c : Common) × (h : Host) × CanServe S.machine c h.place log.old.newest.version.0 request (seen log.old replica.old steps.old) × (style ≡ c.style) }
+    ensures served { (c : Common) (h : Host) → CanServe S.machine c h.place log.old.newest.version.0 request (seen log.old replica.old steps.old) → style ≡ c.style →
+        IsSequenced S.machine c h arrival.host.0 arrival.clock.0 request arrival.stop result (seen log.old replica.old steps.old) (seen log.new replica.new steps.new) }
+    ensures written { IsWritten result log.old log.old.newest.version arrival.clock request log.new }
 {
-    if !is_passive(style) {
-        return active_sequencer::serve(
-            alloc, log, replica, host, version, clock, request, stop, steps,
-        );
+    let version = log.newest().version;
+    if !style.is_passive() {
+        return active_sequencer::serve(alloc, log, replica, version, arrival, request, steps);
     }
-    match passive_dispatch::serve(alloc, log, replica, version, clock, request, stop, steps) {
-        Served::Done { decision, answer } => Sequenced::Done {
-            decision,
-            answer,
-            out: OutList::new(alloc),
-        },
-        Served::NoMemory => Sequenced::NoMemory,
+    match passive_dispatch::serve(alloc, log, replica, version, arrival, request, steps) {
+        Served::Done(replied) => Served::Done(replied),
+        Served::NoMemory => Served::NoMemory,
     }
 }
 
 /// Has a host catch up, and then serve a request; the host knows the newest version.
 pub(crate) fn enter<S: Servant + Drop, K: Keeper, L: Ledger>(
     alloc: Global,
-    style: Style,
+    founding: &Founding<S>,
     log: &mut Log<K>,
-    replica: &mut Replica<S>,
-    holdback: &mut Holdback,
-    opening: &S,
-    host: HostNo,
-    clock: Tick,
+    progress: &mut Progress<S>,
+    arrival: Arrival,
     request: Request,
-    stop: Stop,
     steps: &mut Steps<L>,
 ) -> Entered
-    requires { (c : Common) × (h : Host) × CanEnter S.machine c h style (S.kind opening.now) (S.state opening.now) request (parts log.old replica.old holdback.old steps.old) }
-    ensures entered { (c : Common) (h : Host) → CanEnter S.machine c h style (S.kind opening.now) (S.state opening.now) request (parts log.old replica.old holdback.old steps.old) →
-        IsEntered S.machine c h host.0 clock.0 request stop result (parts log.old replica.old holdback.old steps.old) (parts log.new replica.new holdback.new steps.new) }
+    requires { (c : Common) × (h : Host) × CanEnter S.machine c h founding.now.style (S.kind founding.now.opening) (S.state founding.now.opening) request (parts log.old progress.old.replica progress.old.holdback steps.old) }
+    ensures entered { (c : Common) (h : Host) → CanEnter S.machine c h founding.now.style (S.kind founding.now.opening) (S.state founding.now.opening) request (parts log.old progress.old.replica progress.old.holdback steps.old) →
+        IsEntered S.machine c h arrival.host.0 arrival.clock.0 request arrival.stop result (parts log.old progress.old.replica progress.old.holdback steps.old) (parts log.new progress.new.replica progress.new.holdback steps.new) }
     ensures written { WroteEntered result log.old log.new }
 {
     logs_tell();
     holdbacks_go_on();
-    let version = log.newest().version;
-    if let Err(NoMemory) = catch_up_here(alloc, log, replica, holdback, opening, steps) {
+    let opening = &founding.opening;
+    if let Err(NoMemory) = catch_up_here(alloc, log, progress, opening, steps) {
         return Entered::Short;
     }
-    match serve_by(
-        alloc, style, log, replica, host, version, clock, request, stop, steps,
-    ) {
-        Sequenced::Done {
-            decision,
-            answer,
-            out,
-        } => Entered::Done {
-            decision,
-            answer,
-            out,
-        },
-        Sequenced::NoMemory => {
-            if replica.is_loaded() {
+    let style = founding.style;
+    let replica = &mut progress.replica;
+    match serve_by(alloc, style, log, replica, arrival, request, steps) {
+        Served::Done(replied) => Entered::Done(replied),
+        Served::NoMemory => {
+            if progress.replica.is_loaded() {
                 Entered::Short
             } else {
                 Entered::Unrun

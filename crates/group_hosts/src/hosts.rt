@@ -7,8 +7,8 @@ ghost use Rattle.group_model.specs.Agreeing.{IsBrought, IsShortAsked};
 ghost use Rattle.group_model.specs.Openings.{opening_host, opens_loaded};
 ghost use Rattle.group_model.specs.Plain.{Common, Host, Group};
 ghost use Rattle.group_model.specs.Serving.{calls_behind};
-ghost use Rattle.group_model.specs.Views.{is_primary};
 ghost use Rattle.active_sequencer.specs.Orders.{answer_of};
+ghost use Rattle.active_sequencer.specs.Sequences.{replied_as};
 ghost use Rattle.group_hosts.specs.Answers.{context_told, given_told};
 ghost use Rattle.group_hosts.specs.Asking.{settled, entered_told};
 ghost use Rattle.group_hosts.specs.Hosts.{Shared, IsHere, shared, opening_picture, opening_replica, forgotten};
@@ -17,33 +17,32 @@ ghost use Rattle.group_hosts.specs.Taking.{IsReady, IsUnready};
 ghost use Rattle.group_hosts.specs.Turning.{IsTurn, seen};
 
 use crate::entering::{Entered, catch_up_here, enter};
+use crate::founding::{Founding, Progress};
 use crate::taking::{take_changes, take_checkpoint};
 use active_sequencer::{Holdback, Ordered, order};
 use checkpoint_transfer::{Given, give_state, give_update};
 use decision_table::{Passed, known_then, pass};
 use failover_engine::take_view;
 use ft_base::{
-    Bytes, Decision, HostNo, Ignored, NoMemory, Request, Servant, Steps, Stop, Style, Tick,
-    Version, View,
+    Bytes, Decision, HostNo, Ignored, NoMemory, Request, Servant, Steps, Style, Tick, Version, View,
 };
 use ft_outside::Keeper;
 use ft_replica::Replica;
 use group_model::{Asked, GroupAnswer, OutList};
 use group_stands::{holdbacks_go_on, logs_tell, replicas_go_on};
 use message_log::Log;
+use passive_dispatch::{Arrival, Replied};
 use std::alloc::Global;
 use std::marker::Model;
 use std::sync::ledger::Ledger;
 use sys_faults::{Answer, Completed, SysFault, SysKind};
 
-/// A host's part in a group: whether it is up, the newest view of which it heard, its replica of the
-/// group's servant, and the orders that it holds back.
+/// A host's part in a group: whether it is up, the newest view of which it heard, and how far it has come.
 #[derive(Drop)]
 pub struct GroupHost<S: Servant> {
     up: bool,
     known: Version,
-    replica: Replica<S>,
-    holdback: Holdback,
+    progress: Progress<S>,
 }
 
 impl<S: Servant> Model for GroupHost<S> {
@@ -51,7 +50,23 @@ impl<S: Servant> Model for GroupHost<S> {
 
     ghost Value = { HostPicture };
 
-    ghost view = { λ h. record { up = h.up; known = h.known.0; replica = h.replica; held = h.holdback } };
+    ghost view = { λ h. record { up = h.up; known = h.known.0; replica = h.progress.replica; held = h.progress.holdback } };
+}
+
+/// What a request came to, as the group's answer.
+fn replied_as(replied: Replied) -> GroupAnswer
+    ensures { result ≡ replied_as replied }
+{
+    let Replied {
+        decision,
+        answer,
+        out,
+    } = replied;
+    GroupAnswer::Reply {
+        decision,
+        answer,
+        out,
+    }
 }
 
 /// A request is decided so, and nothing is sent.
@@ -108,21 +123,12 @@ fn given_told(given: Given) -> GroupAnswer
     }
 }
 
-fn is_primary(host: HostNo, primary: Option<HostNo>) -> bool
-    ensures { result ≡ is_primary host.0 primary }
-{
-    match primary {
-        None => false,
-        Some(primary) => primary.0 == host.0,
-    }
-}
-
 /// Whether a host has the opening state from the start.
 fn opens_loaded(style: Style, view: &View, host: HostNo) -> bool
     ensures { result ≡ opens_loaded style view.now host.0 }
 {
     match style {
-        Style::Cold => is_primary(host, view.primary),
+        Style::Cold => view.is_led_by(host),
         Style::Warm | Style::Active => view.members.has(host),
     }
 }
@@ -156,21 +162,22 @@ impl<S: Servant + Drop> GroupHost<S> {
     /// primary has the opening state, and else each member.
     pub fn opening(
         alloc: Global,
-        opening: &S,
-        style: Style,
+        founding: &Founding<S>,
         view: &View,
         host: HostNo,
     ) -> Result<GroupHost<S>, NoMemory>
-        ensures { IfOk result (λ it. it ≡ opening_picture (S.kind opening.now) (S.state opening.now) (opening_host style view.now host.0)) }
+        ensures { IfOk result (λ it. it ≡ opening_picture (S.kind founding.now.opening) (S.state founding.now.opening) (opening_host founding.now.style view.now host.0)) }
     {
         let is_member = view.members.has(host);
-        let loaded = is_member && opens_loaded(style, view, host);
-        let replica = opening_replica(alloc, opening, loaded)?;
+        let loaded = is_member && opens_loaded(founding.style, view, host);
+        let replica = opening_replica(alloc, &founding.opening, loaded)?;
         Ok(GroupHost {
             up: true,
             known: opening_version(is_member),
-            replica,
-            holdback: Holdback::new(alloc),
+            progress: Progress {
+                replica,
+                holdback: Holdback::new(alloc),
+            },
         })
     }
 
@@ -192,8 +199,8 @@ impl<S: Servant + Drop> GroupHost<S> {
     pub fn replica(&self) -> Option<&Replica<S>>
         ensures { option_copied result ≡ (if self.now.replica.loaded then Some self.now.replica else None) }
     {
-        if self.replica.is_loaded() {
-            Some(&self.replica)
+        if self.progress.replica.is_loaded() {
+            Some(&self.progress.replica)
         } else {
             None
         }
@@ -205,8 +212,8 @@ impl<S: Servant + Drop> GroupHost<S> {
     {
         self.up = up;
         self.known = Version(0);
-        self.replica.blank();
-        self.holdback.clear();
+        self.progress.replica.blank();
+        self.progress.holdback.clear();
     }
 
     /// The host stops.
@@ -263,7 +270,7 @@ impl<S: Servant + Drop> GroupHost<S> {
         if !self.up {
             return GroupAnswer::Down;
         }
-        let given = give_state(alloc, &mut self.replica, position, state);
+        let given = give_state(alloc, &mut self.progress.replica, position, state);
         given_told(given)
     }
 
@@ -284,7 +291,7 @@ impl<S: Servant + Drop> GroupHost<S> {
         if !self.up {
             return GroupAnswer::Down;
         }
-        let given = give_update(alloc, &mut self.replica, from, to, update);
+        let given = give_update(alloc, &mut self.progress.replica, from, to, update);
         given_told(given)
     }
 
@@ -305,11 +312,12 @@ impl<S: Servant + Drop> GroupHost<S> {
         if !self.up {
             return GroupAnswer::Down;
         }
-        let loaded = self.replica.is_loaded();
+        let progress = &mut self.progress;
+        let loaded = progress.replica.is_loaded();
         let ordered = order(
             alloc,
-            &mut self.holdback,
-            &mut self.replica,
+            &mut progress.holdback,
+            &mut progress.replica,
             index,
             request,
             steps,
@@ -323,19 +331,11 @@ impl<S: Servant + Drop> GroupHost<S> {
         ensures told { result ≡ entered_told entered }
     {
         match entered {
-            Entered::Done {
-                decision,
-                answer,
-                out,
-            } => {
-                if answer.is_none() {
+            Entered::Done(replied) => {
+                if replied.answer.is_none() {
                     self.forget(false);
                 }
-                GroupAnswer::Reply {
-                    decision,
-                    answer,
-                    out,
-                }
+                replied_as(replied)
             }
             Entered::Short => GroupAnswer::NoMemory,
             Entered::Unrun => {
@@ -349,19 +349,16 @@ impl<S: Servant + Drop> GroupHost<S> {
     pub(crate) fn ask<K: Keeper, L: Ledger>(
         &mut self,
         alloc: Global,
-        style: Style,
+        founding: &Founding<S>,
         log: &mut Log<K>,
-        opening: &S,
-        host: HostNo,
-        clock: Tick,
+        arrival: Arrival,
         asked: Asked,
-        stop: Stop,
         steps: &mut Steps<L>,
     ) -> GroupAnswer
-        requires { (g : Group) × IsHere S.machine g.common (g.hosts host.0) (shared style (S.kind opening.now) (S.state opening.now) log.old) self.old × IsShortAsked asked }
-        ensures turn { (g : Group) → IsHere S.machine g.common (g.hosts host.0) (shared style (S.kind opening.now) (S.state opening.now) log.old) self.old → IsShortAsked asked →
-            IsTurn S.machine g (events.Request host clock asked stop) result steps.old (seen log.new self.new steps.new) }
-        ensures wrote { WroteFor (events.Request host clock asked stop) result log.old log.new }
+        requires { (g : Group) × IsHere S.machine g.common (g.hosts arrival.host.0) (shared founding.now.style (S.kind founding.now.opening) (S.state founding.now.opening) log.old) self.old × IsShortAsked asked }
+        ensures turn { (g : Group) → IsHere S.machine g.common (g.hosts arrival.host.0) (shared founding.now.style (S.kind founding.now.opening) (S.state founding.now.opening) log.old) self.old → IsShortAsked asked →
+            IsTurn S.machine g (events.Request arrival.host arrival.clock asked arrival.stop) result steps.old (seen log.new self.new steps.new) }
+        ensures wrote { WroteFor (events.Request arrival.host arrival.clock asked arrival.stop) result log.old log.new }
     {
         logs_tell();
         replicas_go_on();
@@ -373,7 +370,8 @@ impl<S: Servant + Drop> GroupHost<S> {
             return bad_context(alloc, id);
         }
         let known = known_then(log.newest().version, self.known, asked.version);
-        match pass(alloc, log, style, opening, host, known, asked) {
+        let Founding { style, opening } = founding;
+        match pass(alloc, log, *style, opening, arrival.host, known, asked) {
             Passed::NoMemory => GroupAnswer::NoMemory,
             Passed::Refused(refusal) => {
                 self.known = refusal.known;
@@ -381,19 +379,8 @@ impl<S: Servant + Drop> GroupHost<S> {
             }
             Passed::Request(request) => {
                 self.known = known;
-                let entered = enter(
-                    alloc,
-                    style,
-                    log,
-                    &mut self.replica,
-                    &mut self.holdback,
-                    opening,
-                    host,
-                    clock,
-                    request,
-                    stop,
-                    steps,
-                );
+                let progress = &mut self.progress;
+                let entered = enter(alloc, founding, log, progress, arrival, request, steps);
                 self.settle(entered)
             }
         }
@@ -416,14 +403,8 @@ impl<S: Servant + Drop> GroupHost<S> {
     {
         logs_tell();
         self.known = log.newest().version;
-        if let Err(NoMemory) = catch_up_here(
-            alloc,
-            log,
-            &mut self.replica,
-            &mut self.holdback,
-            opening,
-            steps,
-        ) {
+        let progress = &mut self.progress;
+        if let Err(NoMemory) = catch_up_here(alloc, log, progress, opening, steps) {
             return Err(NoMemory);
         }
         Ok(())
@@ -433,25 +414,25 @@ impl<S: Servant + Drop> GroupHost<S> {
     pub(crate) fn checkpoint<K: Keeper, L: Ledger>(
         &mut self,
         alloc: Global,
-        style: Style,
+        founding: &Founding<S>,
         log: &mut Log<K>,
-        opening: &S,
         host: HostNo,
         clock: Tick,
         steps: &mut Steps<L>,
     ) -> GroupAnswer
-        requires { (g : Group) × IsHere S.machine g.common (g.hosts host.0) (shared style (S.kind opening.now) (S.state opening.now) log.old) self.old }
-        ensures turn { (g : Group) → IsHere S.machine g.common (g.hosts host.0) (shared style (S.kind opening.now) (S.state opening.now) log.old) self.old →
+        requires { (g : Group) × IsHere S.machine g.common (g.hosts host.0) (shared founding.now.style (S.kind founding.now.opening) (S.state founding.now.opening) log.old) self.old }
+        ensures turn { (g : Group) → IsHere S.machine g.common (g.hosts host.0) (shared founding.now.style (S.kind founding.now.opening) (S.state founding.now.opening) log.old) self.old →
             IsTurn S.machine g (events.Checkpoint host clock) result steps.old (seen log.new self.new steps.new) }
         ensures wrote { WroteFor (events.Checkpoint host clock) result log.old log.new }
     {
         if !self.up {
             return GroupAnswer::Down;
         }
-        if let Err(NoMemory) = self.prepare(alloc, log, opening, steps) {
+        if let Err(NoMemory) = self.prepare(alloc, log, &founding.opening, steps) {
             return GroupAnswer::NoMemory;
         }
-        take_checkpoint(alloc, style, log, &mut self.replica, host, clock)
+        let replica = &mut self.progress.replica;
+        take_checkpoint(alloc, founding.style, log, replica, host, clock)
     }
 
     /// The host sends the other members of a warm group an update.
@@ -474,6 +455,6 @@ impl<S: Servant + Drop> GroupHost<S> {
         if let Err(NoMemory) = self.prepare(alloc, log, opening, steps) {
             return GroupAnswer::NoMemory;
         }
-        take_changes(alloc, log, &mut self.replica, host)
+        take_changes(alloc, log, &mut self.progress.replica, host)
     }
 }

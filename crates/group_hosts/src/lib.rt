@@ -7,10 +7,13 @@
 
 mod acting;
 mod entering;
+mod founding;
 mod hosts;
 mod managing;
 mod sending;
 mod taking;
 
 pub use acting::{act_at, host_of};
+pub use founding::Founding;
 pub use hosts::GroupHost;
+pub use sending::is_warm;

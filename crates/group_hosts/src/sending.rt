@@ -80,7 +80,8 @@ fn to_others(
     Ok(OutList::from_vec(items))
 }
 
-fn is_warm(style: Style) -> bool
+/// Whether its primary sends its state and updates to the other members.
+pub fn is_warm(style: Style) -> bool
     ensures { result ≡ is_warm style }
 {
     match style {

@@ -1,17 +1,16 @@
 -- What a call of the manager answers.
-use Rattle.std.specs.Prelude.{◌≡◌, ℕ, if◌then◌else◌, List, Option, Some, None, Result, Ok, Err}
+use Rattle.std.specs.Prelude.{◌≡◌, ℕ, if◌then◌else◌, List, Option, Some, None, Result, Ok, Err, IsOk}
 use Rattle.ft_base.specs.Members.{is_member}
 use Rattle.ft_base.specs.declared.numbers.GroupId.{GroupId}
 use Rattle.ft_base.specs.declared.numbers.HostNo.{HostNo}
 use Rattle.ft_base.specs.declared.views.Style.{Style}
 use Rattle.ft_base.specs.declared.views.View.{View}
-use Rattle.iogr_reference.specs.Views.{reference_of}
+use Rattle.iogr_reference.specs.Views.{plain_reference, reference_of}
 use Rattle.iogr_reference.specs.declared.references.Ior.{Ior}
 use Rattle.group_model.specs.Changes.{change_rows, first_fault, next_view}
 use Rattle.group_model.specs.declared.changes.Change.{Change}
 use Rattle.group_model.specs.declared.changes.ManageFault.{ManageFault}
 use Rattle.group_model.specs.declared.changes.ManageFault.TheVariants.{ObjectGroupNotFound, MemberNotFound, NoMemory}
-use Rattle.group_manager.specs.References.{plain_reference}
 use Rattle.group_manager.specs.declared.directory.GroupInfo.{GroupInfo}
 
 -- ---- changes
@@ -31,10 +30,10 @@ abbrev pub if_there : {X : Type 0} → Option GroupInfo → (GroupInfo → Resul
 if_there None answer = Err ObjectGroupNotFound
 if_there (Some info) answer = answer info
 
--- this is answered, or that there is no memory
+-- this is answered; or, where a reference is made, that there is no memory
 abbrev pub Comes : {X : Type 0} → Result X ManageFault → Result X ManageFault → Type 0
 Comes wanted (Ok x) = wanted ≡ Ok x
-Comes wanted (Err NoMemory) = Unit {0}
+Comes wanted (Err NoMemory) = IsOk wanted
 Comes wanted (Err fault) = wanted ≡ Err fault
 
 -- the reference of the group's view

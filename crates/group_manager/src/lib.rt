@@ -17,13 +17,11 @@ mod changing;
 mod directory;
 mod managing;
 mod members;
-mod references;
 mod refusals;
 mod sending;
 
 pub use changing::changed;
 pub use directory::{GroupInfo, Groups};
-pub use references::plain_ref;
 pub use sending::view_sent;
 
 #[cfg(test)]

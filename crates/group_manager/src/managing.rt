@@ -8,10 +8,9 @@ ghost use Rattle.group_manager.specs.Managing.{changed_as, group_ref, if_there, 
 
 use crate::changing::changed;
 use crate::directory::Groups;
-use crate::references::plain_ref;
 use ft_base::{GroupId, HostNo, Members, NoMemory, Style, View};
 use group_model::{Change, ManageFault};
-use iogr_reference::{Ior, Ports, ref_of};
+use iogr_reference::{Ior, Ports, plain_ref, ref_of};
 use std::alloc::Global;
 
 impl Groups {

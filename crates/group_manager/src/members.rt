@@ -2,10 +2,9 @@
 ghost use Rattle.std.specs.Prelude.{◌≡◌, ◌∷◌, ◌++◌, [], ◌<◌, true, false, length};
 ghost use Rattle.ft_base.specs.Members.{is_member, AreDifferent};
 ghost use Rattle.ft_base.specs.declared.views.TheConstants.{MEMBER_LIMIT};
-ghost use Rattle.group_model.specs.Changes.{first_of, host_of_change, joins, kept_or_first, leads, members_then, primary_then};
+ghost use Rattle.group_model.specs.Changes.{host_of_change, joins, kept_or_first, leads, members_then, primary_then};
 ghost use Rattle.group_model.specs.Views.{without};
 
-use crate::refusals::is_passive;
 use ft_base::{HostNo, Members, Style};
 use group_model::Change;
 
@@ -52,26 +51,17 @@ pub(crate) fn members_then(change: &Change, members: &Members) -> Members
     }
 }
 
-fn first_of(members: &Members) -> Option<HostNo>
-    ensures { result ≡ first_of members.now }
-{
-    match members.hosts().first() {
-        None => None,
-        Some(host) => Some(HostNo(*host)),
-    }
-}
-
 /// The primary stays while it is a member; else the first member is.
 fn kept_or_first(primary: Option<HostNo>, members: &Members) -> Option<HostNo>
     ensures { result ≡ kept_or_first primary members.now }
 {
     match primary {
-        None => first_of(members),
+        None => members.first(),
         Some(primary) => {
             if members.has(primary) {
                 Some(primary)
             } else {
-                first_of(members)
+                members.first()
             }
         }
     }
@@ -86,7 +76,7 @@ pub(crate) fn primary_then(
 ) -> Option<HostNo>
     ensures { result ≡ primary_then style change.now primary members.now }
 {
-    if !is_passive(style) {
+    if !style.is_passive() {
         return None;
     }
     match *change {

@@ -4,7 +4,6 @@ ghost use Rattle.ft_base.specs.Members.{is_member};
 ghost use Rattle.ft_base.specs.declared.limits.TheConstants.{VIEW_LIMIT};
 ghost use Rattle.ft_base.specs.declared.views.TheConstants.{MEMBER_LIMIT};
 ghost use Rattle.group_model.specs.Changes.{change_rows, first_fault, host_of_change, is_unlisted, is_unmade, joins, leads};
-ghost use Rattle.group_model.specs.Views.{is_passive, is_primary};
 
 use ft_base::{HostNo, MEMBER_LIMIT, Style, VIEW_LIMIT, View};
 use group_model::{Change, ManageFault};
@@ -57,24 +56,6 @@ fn is_unmade(change: &Change) -> bool
     }
 }
 
-pub(crate) fn is_passive(style: Style) -> bool
-    ensures { result ≡ is_passive style }
-{
-    match style {
-        Style::Cold | Style::Warm => true,
-        Style::Active => false,
-    }
-}
-
-fn is_primary(host: HostNo, primary: Option<HostNo>) -> bool
-    ensures { result ≡ is_primary host.0 primary }
-{
-    match primary {
-        None => false,
-        Some(primary) => primary.0 == host.0,
-    }
-}
-
 /// The first cause for which a change is refused.
 pub(crate) fn fault_of(style: Style, view: &View, change: &Change) -> Option<ManageFault>
     ensures first { result ≡ first_fault (change_rows style view.now change.now) }
@@ -96,13 +77,13 @@ pub(crate) fn fault_of(style: Style, view: &View, change: &Change) -> Option<Man
     if is_unmade(change) {
         return Some(ManageFault::ObjectNotCreated(host));
     }
-    if leads(change) && !is_passive(style) {
+    if leads(change) && !style.is_passive() {
         return Some(ManageFault::BadReplicationStyle);
     }
     if !joins(change) && !is_in {
         return Some(ManageFault::MemberNotFound(host));
     }
-    if leads(change) && is_primary(host, view.primary) {
+    if leads(change) && view.is_led_by(host) {
         return Some(ManageFault::PrimaryNotSet(host));
     }
     if view.version.0 >= VIEW_LIMIT {

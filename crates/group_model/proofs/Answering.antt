@@ -29,7 +29,9 @@ use Rattle.group_model.specs.Turns.{Turn, unchanged}
 use Rattle.group_model.specs.Asking.{asked_version, signature_asked}
 use Rattle.group_model.specs.Views.{newest}
 use Rattle.group_model.specs.Decisions.{refused_by_view, request_with, args_for, request_named, known_then, looks_up, request_in}
-use Rattle.group_model.specs.Admissions.{Admission, Expired, Same, Other, Full, New, admission, by_key, by_room, against_held, against_entry, says_same}
+use Rattle.ft_base.specs.Admissions.{admission, by_key, by_room, against_held, against_entry, says_same}
+use Rattle.ft_base.specs.declared.admissions.Admission.{Admission}
+use Rattle.ft_base.specs.declared.admissions.Admission.TheVariants.{Expired, Same, Other, Full, New}
 use Rattle.group_model.specs.Serving.{accepted, admitted, served_or, unless_bad, on_request}
 use Rattle.group_model.specs.Events.{if_up, turn, turn_of, after_event}
 use Rattle.group_model.specs.Agreeing.{Agrees, IsSound, IsSoundCommon, IsSoundHost}
@@ -67,7 +69,7 @@ and_first : (a b : Bool) → (a && b) ≡ true → a ≡ true
 and_first true b e = refl
 and_first false b e = e
 
-room_repeats : (journal : List Entry) (q : Request) → IfSame (Repeats journal q) (by_room journal)
+room_repeats : (journal : List Entry) (q : Request) → IfSame (Repeats journal q) (by_room (length journal))
 room_repeats journal q = either_so (IfSame (Repeats journal q)) (nat_le JOURNAL_LIMIT (length journal)) Full New (λ full. tt) (λ room. tt)
 
 entry_repeats : (journal : List Entry) (q : Request) (key : Key) (i : ℕ) (o : Option Entry) → slice_get journal i ≡ o →

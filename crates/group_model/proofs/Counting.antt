@@ -23,7 +23,9 @@ use Rattle.group_model.specs.Plain.{Common, Host, Group, Place, reach, with_ran,
 use Rattle.group_model.specs.Turns.{Turn, unchanged}
 use Rattle.group_model.specs.Views.{version, newest, newest_view}
 use Rattle.group_model.specs.Decisions.{known_then, request_in}
-use Rattle.group_model.specs.Admissions.{Admission, Expired, Same, Other, Full, New, admission}
+use Rattle.ft_base.specs.Admissions.{admission}
+use Rattle.ft_base.specs.declared.admissions.Admission.{Admission}
+use Rattle.ft_base.specs.declared.admissions.Admission.TheVariants.{Expired, Same, Other, Full, New}
 use Rattle.group_model.specs.Serving.{accepted, admitted, served_or, unless_bad, on_request, calls_behind}
 use Rattle.group_model.specs.Transfers.{brought_to, ignoring, holding, ordered, taking, checkpoint_written, on_checkpoint, on_state, on_update, on_order, on_view, on_send_update}
 use Rattle.group_model.specs.Changes.{changed, changed_or, next_view, first_fault, change_rows}

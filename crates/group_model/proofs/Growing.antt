@@ -16,7 +16,9 @@ use Rattle.group_model.specs.Plain.{Common, Host, Group, reach, with_ran, caught
 use Rattle.group_model.specs.Turns.{Turn, unchanged}
 use Rattle.group_model.specs.Views.{version, newest, newest_view}
 use Rattle.group_model.specs.Decisions.{known_then, request_in}
-use Rattle.group_model.specs.Admissions.{Admission, Expired, Same, Other, Full, New, admission}
+use Rattle.ft_base.specs.Admissions.{admission}
+use Rattle.ft_base.specs.declared.admissions.Admission.{Admission}
+use Rattle.ft_base.specs.declared.admissions.Admission.TheVariants.{Expired, Same, Other, Full, New}
 use Rattle.group_model.specs.Serving.{joined, accepted, admitted, served, served_or, unless_bad, on_request}
 use Rattle.std.specs.Prelude.{not, nat_lt, nat_eq}
 use Rattle.ft_base.specs.declared.decisions.Ignored.TheVariants as causes

@@ -8,7 +8,9 @@ use Rattle.ft_base.specs.Laws.{JournalGoesOn, AllGoOnFitting}
 use Rattle.ft_base.specs.declared.limits.TheConstants.{ARGUMENTS_LIMIT, JOURNAL_LIMIT}
 use Rattle.ft_base.specs.declared.requests.Key.{Key}
 use Rattle.ft_base.specs.declared.requests.Request.{Request}
-use Rattle.group_model.specs.Admissions.{Admission, Expired, Same, Other, Full, New, admission, by_key, by_room, against_held, against_entry, says_same}
+use Rattle.ft_base.specs.Admissions.{admission, by_key, by_room, against_held, against_entry, says_same}
+use Rattle.ft_base.specs.declared.admissions.Admission.{Admission}
+use Rattle.ft_base.specs.declared.admissions.Admission.TheVariants.{Expired, Same, Other, Full, New}
 use Rattle.group_model.specs.Agreeing.{IsLogged}
 use Rattle.group_model.proofs.Reading.{Runs}
 use Rattle.group_model.proofs.Choosing.{either_so}
@@ -23,7 +25,7 @@ IfNew P (Other i) = Unit {0}
 IfNew P Full = Unit {0}
 IfNew P New = P
 
-room_new : (journal : List Entry) → IfNew (length journal < JOURNAL_LIMIT) (by_room journal)
+room_new : (journal : List Entry) → IfNew (length journal < JOURNAL_LIMIT) (by_room (length journal))
 room_new journal =
     either_so (IfNew (length journal < JOURNAL_LIMIT)) (nat_le JOURNAL_LIMIT (length journal)) Full New
     (λ full. tt) (λ room. leb-false JOURNAL_LIMIT (length journal) room)
@@ -46,7 +48,7 @@ more_new P Q Full f x = tt
 more_new P Q New f x = f x
 
 held_new : (journal : List Entry) (q : Request) (key : Key) (o : Option ℕ) → IfNew ((length journal < JOURNAL_LIMIT) × (o ≡ None)) (against_held journal q key o)
-held_new journal q key None = more_new (length journal < JOURNAL_LIMIT) ((length journal < JOURNAL_LIMIT) × (None ≡ None)) (by_room journal) (λ room. (room, refl)) (room_new journal)
+held_new journal q key None = more_new (length journal < JOURNAL_LIMIT) ((length journal < JOURNAL_LIMIT) × (None ≡ None)) (by_room (length journal)) (λ room. (room, refl)) (room_new journal)
 held_new journal q key (Some i) = entry_new ((length journal < JOURNAL_LIMIT) × (Some i ≡ None)) i q key (slice_get journal i)
 
 some_is : (x y : Key) → Some x ≡ Some y → x ≡ y
@@ -54,7 +56,7 @@ some_is x y e = cc
 
 key_new : (journal : List Entry) (now : ℕ) (q : Request) (o : Option Key) → IfNew (IsFree journal now o) (by_key journal now q o)
 key_new journal now q None =
-    more_new (length journal < JOURNAL_LIMIT) (IsFree journal now None) (by_room journal)
+    more_new (length journal < JOURNAL_LIMIT) (IsFree journal now None) (by_room (length journal))
     (λ room. record { room = room; in_time = λ key e. absurd cc; free = λ key e. absurd cc }) (room_new journal)
 key_new journal now q (Some key) =
     either_so (IfNew (IsFree journal now (Some key))) (nat_le key.expiration.0 now) (Expired key.expiration) (against_held journal q key (held journal key now))

@@ -5,7 +5,8 @@ use Rattle.std.specs.List.{AllByRecursion}
 use Rattle.std.proofs.lemmas.Bool.{and_parts}
 use Rattle.group_model.specs.Plain.{Common, Host, Place, blank, loaded_at, from, with_number, is_held, past_held, reach, goes_on, start_of, moved_to, caught_up, with_ran}
 use Rattle.group_model.specs.Transfers.{rebased, holding}
-use Rattle.group_model.specs.Views.{newest, is_passive}
+use Rattle.ft_base.specs.Views.{is_passive}
+use Rattle.group_model.specs.Views.{newest}
 use Rattle.group_model.specs.Agreeing.{IsSoundHost, AreNumbers}
 use Rattle.group_model.proofs.Choosing.{either_so}
 

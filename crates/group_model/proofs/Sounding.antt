@@ -17,9 +17,12 @@ use Rattle.group_model.specs.declared.events.GroupAnswer.TheVariants.{Known, Dow
 use Rattle.group_model.specs.declared.refusals.Refusal.{Refusal}
 use Rattle.group_model.specs.Plain.{Common, Host, Group, reach, with_ran, caught_up}
 use Rattle.group_model.specs.Turns.{Turn, unchanged}
-use Rattle.group_model.specs.Views.{version, newest, newest_view, is_passive}
+use Rattle.ft_base.specs.Views.{is_passive}
+use Rattle.group_model.specs.Views.{version, newest, newest_view}
 use Rattle.group_model.specs.Decisions.{known_then, looks_up, request_in}
-use Rattle.group_model.specs.Admissions.{Admission, Expired, Same, Other, Full, New, admission}
+use Rattle.ft_base.specs.Admissions.{admission}
+use Rattle.ft_base.specs.declared.admissions.Admission.{Admission}
+use Rattle.ft_base.specs.declared.admissions.Admission.TheVariants.{Expired, Same, Other, Full, New}
 use Rattle.group_model.specs.Serving.{joined, accepted, admitted, served_or, unless_bad, on_request}
 use Rattle.group_model.specs.Transfers.{brought_to, ignoring, holding, ordered, taking, rebased, marked, checkpoint_written, on_checkpoint, on_send_update, on_state, on_update, on_order, on_view}
 use Rattle.group_model.specs.Changes.{changed, changed_or, next_view, first_fault, change_rows, host_of_change}

@@ -16,7 +16,9 @@ use Rattle.group_model.specs.declared.events.Event.{Event}
 use Rattle.group_model.specs.declared.events.Event.TheVariants as events
 use Rattle.group_model.specs.declared.events.GroupAnswer.TheVariants.{Down, Known}
 use Rattle.group_model.specs.declared.refusals.Refusal.{Refusal}
-use Rattle.group_model.specs.Admissions.{Admission, Expired, Same, Other, Full, New, admission}
+use Rattle.ft_base.specs.Admissions.{admission}
+use Rattle.ft_base.specs.declared.admissions.Admission.{Admission}
+use Rattle.ft_base.specs.declared.admissions.Admission.TheVariants.{Expired, Same, Other, Full, New}
 use Rattle.group_model.specs.Changes.{with_view, changed, changed_or, change_rows, first_fault, next_view}
 use Rattle.group_model.specs.Decisions.{known_then, request_in}
 use Rattle.group_model.specs.Events.{host_of, if_up, turn}

@@ -15,7 +15,8 @@ use Rattle.group_model.specs.declared.changes.Change.TheVariants.{Report, Remove
 use Rattle.group_model.specs.declared.changes.ManageFault.{ManageFault}
 use Rattle.group_model.specs.Plain.{Common}
 use Rattle.group_model.specs.Views.{no_view, view_at, newest_view, without}
-use Rattle.group_model.specs.Changes.{ChangeRow, first_fault, change_rows, host_of_change, joins, leaves, leads, members_then, first_of, kept_or_first, primary_then, next_view}
+use Rattle.ft_base.specs.Members.{first_of}
+use Rattle.group_model.specs.Changes.{ChangeRow, first_fault, change_rows, host_of_change, joins, leaves, leads, members_then, kept_or_first, primary_then, next_view}
 use Rattle.group_model.specs.Agreeing.{IsViewAt, AreViews}
 use Rattle.group_model.proofs.Choosing.{either_so}
 

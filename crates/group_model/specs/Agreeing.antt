@@ -14,7 +14,8 @@ use Rattle.group_model.specs.declared.asking.Asked.{Asked}
 use Rattle.group_model.specs.declared.events.Event.{Event}
 use Rattle.group_model.specs.declared.events.Event.TheVariants as events
 use Rattle.group_model.specs.Plain.{Common, Host, Group, state_at, delta_at}
-use Rattle.group_model.specs.Views.{host_no, newest, newest_view, is_passive}
+use Rattle.ft_base.specs.Views.{is_passive}
+use Rattle.group_model.specs.Views.{host_no, newest, newest_view}
 use Rattle.group_model.specs.Events.{host_of}
 
 -- ---- sound groups

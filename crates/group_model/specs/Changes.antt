@@ -1,7 +1,7 @@
 -- A change of a group's members. (Chapter 23, `ObjectGroupManager`.)
 use Rattle.std.specs.Prelude.{ℕ, ◌+◌, ◌&&◌, not, Bool, true, false, nat_le, if◌then◌else◌, List, [], ◌∷◌, ◌++◌, length, Option, Some, None}
 use Rattle.std.specs.List.{filter}
-use Rattle.ft_base.specs.Members.{is_member}
+use Rattle.ft_base.specs.Members.{first_of, is_member}
 use Rattle.ft_base.specs.declared.limits.TheConstants.{VIEW_LIMIT}
 use Rattle.ft_base.specs.declared.numbers.HostNo.{HostNo}
 use Rattle.ft_base.specs.declared.views.TheConstants.{MEMBER_LIMIT}
@@ -16,7 +16,8 @@ use Rattle.group_model.specs.declared.events.Inner.TheVariants as inners
 use Rattle.group_model.specs.declared.events.Out.{Out}
 use Rattle.group_model.specs.Plain.{Common, Host}
 use Rattle.group_model.specs.Turns.{Turn, unchanged}
-use Rattle.group_model.specs.Views.{version, host_no, newest_view, is_passive, is_primary, without, sent_to}
+use Rattle.ft_base.specs.Views.{is_led_by, is_passive}
+use Rattle.group_model.specs.Views.{version, host_no, newest_view, without, sent_to}
 
 -- the host that a change names
 abbrev pub host_of_change : Change → HostNo
@@ -88,7 +89,7 @@ change_rows style view change =
     ∷ change_row (is_unmade change) (ObjectNotCreated host)
     ∷ change_row (leads change && not (is_passive style)) BadReplicationStyle
     ∷ change_row (not (joins change) && not is_in) (MemberNotFound host)
-    ∷ change_row (leads change && is_primary host.0 view.primary) (PrimaryNotSet host)
+    ∷ change_row (leads change && is_led_by view host.0) (PrimaryNotSet host)
     ∷ change_row (nat_le VIEW_LIMIT view.version.0) (ViewsFull VIEW_LIMIT)
     ∷ []
 
@@ -99,10 +100,6 @@ abbrev pub members_then : Change → List ℕ → List ℕ
 members_then change members =
     let host = (host_of_change change).0 in
     if joins change then members ++ host ∷ [] else (if leaves change then without host members else members)
-
-abbrev pub first_of : List ℕ → Option HostNo
-first_of [] = None
-first_of (m ∷ members) = Some (host_no m)
 
 -- the primary stays while it is a member; else the first member is
 abbrev pub kept_or_first : Option HostNo → List ℕ → Option HostNo

@@ -22,7 +22,9 @@ use Rattle.group_model.specs.declared.asking.Asked.{Asked}
 use Rattle.group_model.specs.declared.refusals.Refusal.{Refusal}
 use Rattle.group_model.specs.Plain.{Common}
 use Rattle.group_model.specs.Asking.{asked_version, args_read}
-use Rattle.group_model.specs.Views.{version, view_at, newest, newest_view, is_empty, is_primary, is_passive}
+use Rattle.ft_base.specs.Members.{is_empty}
+use Rattle.ft_base.specs.Views.{is_led_by, is_passive}
+use Rattle.group_model.specs.Views.{version, view_at, newest, newest_view}
 
 -- a system exception
 abbrev pub fault : SysKind → ℕ → Completed → Answer
@@ -68,7 +70,7 @@ view_rows style host asked known view newest last =
     ∷ row (is_empty view.members) (decisions.Empty (version known)) (refusal kinds.Transient 1) known
     ∷ row (nat_lt asked known) (decisions.Older (version asked) (version known)) (ForwardPerm (version known)) known
     ∷ row (not (is_member host view.members)) (decisions.Stranger (version known)) (refusal kinds.ObjectNotExist 2) known
-    ∷ row (is_passive style && not (is_primary host view.primary)) (decisions.Backup (version known)) (Forward (version known)) known
+    ∷ row (is_passive style && not (is_led_by view host)) (decisions.Backup (version known)) (Forward (version known)) known
     ∷ row (nat_lt known newest && is_empty last.members) (decisions.Empty (version newest)) (refusal kinds.Transient 1) newest
     ∷ row (nat_lt known newest) (decisions.Deposed (version known) (version newest)) (ForwardPerm (version newest)) newest
     ∷ []

@@ -6,7 +6,8 @@ use Rattle.ft_base.specs.declared.requests.Request.{Request}
 use Rattle.group_model.specs.declared.events.Event.{Event}
 use Rattle.group_model.specs.declared.events.Event.TheVariants as events
 use Rattle.group_model.specs.Plain.{Common, Host, Group, Place, from, with_number, start_of, blank, put, with_ran}
-use Rattle.group_model.specs.Admissions.{admission, New}
+use Rattle.ft_base.specs.Admissions.{admission}
+use Rattle.ft_base.specs.declared.admissions.Admission.TheVariants.{New}
 use Rattle.group_model.specs.Decisions.{request_in, known_then}
 use Rattle.group_model.specs.Serving.{joined}
 use Rattle.group_model.specs.Events.{turn, host_of}

@@ -3,7 +3,6 @@ pub mod Turns
 pub mod Asking
 pub mod Views
 pub mod Decisions
-pub mod Admissions
 pub mod Serving
 pub mod Changes
 pub mod Transfers

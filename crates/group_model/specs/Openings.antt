@@ -5,8 +5,9 @@ use Rattle.ft_base.specs.declared.views.Style.{Style}
 use Rattle.ft_base.specs.declared.views.Style.TheVariants.{Cold, Warm, Active}
 use Rattle.ft_base.specs.declared.views.View.{View}
 use Rattle.group_model.specs.Plain.{Common, Host, Group, blank, loaded_at, nowhere}
-use Rattle.group_model.specs.Views.{version, is_passive, is_primary}
-use Rattle.group_model.specs.Changes.{first_of}
+use Rattle.ft_base.specs.Views.{is_led_by, is_passive}
+use Rattle.group_model.specs.Views.{version}
+use Rattle.ft_base.specs.Members.{first_of}
 
 -- the primary of a passive group's first view is its first member
 abbrev pub first_view : Style → List ℕ → View
@@ -18,7 +19,7 @@ first_view style members = record {
 
 -- the members that have a servant from the start: in a cold group the primary alone
 abbrev pub opens_loaded : Style → View → ℕ → Bool
-opens_loaded Cold view host = is_primary host view.primary
+opens_loaded Cold view host = is_led_by view host
 opens_loaded Warm view host = is_member host view.members
 opens_loaded Active view host = is_member host view.members
 

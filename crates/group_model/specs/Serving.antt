@@ -20,9 +20,12 @@ use Rattle.group_model.specs.declared.events.Out.{Out}
 use Rattle.group_model.specs.declared.refusals.Refusal.{Refusal}
 use Rattle.group_model.specs.Plain.{Common, Host, blank, start_of, caught_up, moved_to, with_ran}
 use Rattle.group_model.specs.Turns.{Turn, unchanged, costing}
-use Rattle.group_model.specs.Views.{newest, is_passive, to_others}
+use Rattle.ft_base.specs.Views.{is_passive}
+use Rattle.group_model.specs.Views.{newest, to_others}
 use Rattle.group_model.specs.Decisions.{fault, refusal, known_then, request_in}
-use Rattle.group_model.specs.Admissions.{Admission, Expired, Same, Other, Full, New, admission}
+use Rattle.ft_base.specs.Admissions.{admission}
+use Rattle.ft_base.specs.declared.admissions.Admission.{Admission}
+use Rattle.ft_base.specs.declared.admissions.Admission.TheVariants.{Expired, Same, Other, Full, New}
 
 -- ---- the journal says no, or repeats
 

@@ -31,19 +31,6 @@ newest c = length c.views
 abbrev pub newest_view : Common → View
 newest_view c = view_at c.views (newest c)
 
-abbrev pub is_empty : List ℕ → Bool
-is_empty [] = true
-is_empty (m ∷ members) = false
-
-abbrev pub is_primary : ℕ → Option HostNo → Bool
-is_primary host None = false
-is_primary host (Some primary) = nat_eq primary.0 host
-
-abbrev pub is_passive : Style → Bool
-is_passive Cold = true
-is_passive Warm = true
-is_passive Active = false
-
 abbrev pub is_warm : Style → Bool
 is_warm Cold = false
 is_warm Warm = true

@@ -14,19 +14,18 @@ use Rattle.ft_base.specs.declared.requests.Key.{Key}
 use Rattle.ft_base.specs.declared.requests.Outcome.{Outcome}
 use Rattle.ft_base.specs.declared.requests.Request.{Request}
 use Rattle.reply_table.specs.Entries.{reply_of}
-use Rattle.reply_table.specs.declared.entries.Found.TheVariants as founds
 use Rattle.reply_table.specs.declared.entries.Retained.{Retained}
-use Rattle.message_log.specs.Admission as logged
+use Rattle.message_log.specs.Admission.{unless_deposed, admitted_by, admitted}
 use Rattle.message_log.specs.Laws.{AdmitsAsJournal}
 use Rattle.message_log.specs.Picture.{Picture as LogPicture}
-use Rattle.message_log.specs.declared.answers.Admit.{Admit}
 use Rattle.message_log.specs.declared.answers.Admit.TheVariants as admits
 use Rattle.ft_replica.specs.Picture.{Picture as ReplicaPicture}
 use Rattle.group_model.specs.Plain.{Common, Place}
 use Rattle.group_model.specs.Views.{newest}
-use Rattle.group_model.specs.Admissions.{Admission, Expired, Same, Other, Full, New, admission, by_key, by_room, against_held, against_entry, says_same}
+use Rattle.ft_base.specs.Admissions.{admission, by_key, by_room, against_held, against_entry, says_same}
+use Rattle.ft_base.specs.declared.admissions.Admission.{Admission}
+use Rattle.ft_base.specs.declared.admissions.Admission.TheVariants.{Expired, Same, Other, Full, New}
 use Rattle.group_stands.specs.Stands.{LogStands, ReplicaStands, IsCaughtUp, reply_once_run}
-use Rattle.group_stands.specs.Telling.{IsSaid}
 use Rattle.group_stands.proofs.Places.{Passes, last_passes, find_there}
 use Rattle.group_stands.proofs.Tells.{version_told}
 
@@ -37,50 +36,16 @@ either_so P false x y p q = q refl
 
 -- ---- both say the same
 
-said_room : (key : Option Key) (now : ℕ) (b : Bool) → IsSaid (cond b Full New) key now (cond b admits.Full admits.New)
-said_room key now true = refl
-said_room key now false = refl
-
-said_same : (key : Option Key) (now i : ℕ) (count : ℕ) (b : Bool) → IsSaid (cond b (Same i) (Other i)) key now (logged.by_found (cond b (founds.Same i) (founds.Other i)) count)
-said_same key now i count true = refl
-said_same key now i count false = refl
-
-said_held : (journal : List Entry) (now : ℕ) (q : Request) (key : Key) →
-    IsSaid (against_held journal q key (held journal key now)) (Some key) now (logged.by_found (logged.against_place journal q key (held journal key now)) (length journal))
-said_held journal now q key = go (held journal key now) refl
-  where
-    at_place : (i : ℕ) (e : Entry) → slice_get journal i ≡ Some e →
-        IsSaid (against_entry i q key (slice_get journal i)) (Some key) now (logged.by_found (logged.against_entry q key i (slice_get journal i)) (length journal))
-    at_place i e at =
-        subst (λ (o : Option Entry). IsSaid (against_entry i q key o) (Some key) now (logged.by_found (logged.against_entry q key i o) (length journal)))
-        (sym at) (said_same (Some key) now i (length journal) (says_same q key e.request))
-
-    go : (o : Option ℕ) → held journal key now ≡ o → IsSaid (against_held journal q key o) (Some key) now (logged.by_found (logged.against_place journal q key o) (length journal))
-    go None is = said_room (Some key) now (nat_le JOURNAL_LIMIT (length journal))
-    go (Some i) is = let p = last_passes (is_held now key) journal i is in at_place i p.value p.at
-
-said_key : (journal : List Entry) (now : ℕ) (q : Request) (key : Option Key) →
-    IsSaid (by_key journal now q key) key now (logged.by_key key now (logged.found_in journal q key now) (length journal))
-said_key journal now q None = said_room None now (nat_le JOURNAL_LIMIT (length journal))
-said_key journal now q (Some key) = go (nat_le key.expiration.0 now)
-  where
-    go : (b : Bool) → IsSaid (cond b (Expired key.expiration) (against_held journal q key (held journal key now))) (Some key) now
-        (cond b (admits.Expired (record { 0 = now })) (logged.by_found (logged.against_place journal q key (held journal key now)) (length journal)))
-    go true = (refl, (key, refl, refl))
-    go false = said_held journal now q key
-
-not_deposed : (version n : ℕ) (rest : Admit) → version ≡ n → logged.unless_deposed n version rest ≡ rest
-not_deposed version n rest is = let no : nat_lt version n ≡ false = grind (arith, nat_tests) in ap (λ b. cond b (admits.Deposed (record { 0 = n })) rest) no
+not_deposed : (version n : ℕ) (says : Admission) → version ≡ n → unless_deposed n version says ≡ admits.Admission says
+not_deposed version n says is = let no : nat_lt version n ≡ false = grind (arith, nat_tests) in ap (λ b. cond b (admits.Deposed (record { 0 = n })) (admits.Admission says)) no
 
 pub log_admits : AdmitsAsJournal → (machines : ℕ → Machine) (c : Common) (log : LogPicture) → LogStands machines c log →
-    (version clock : ℕ) (q : Request) → version ≡ newest c →
-    IsSaid (admission c.journal (max clock c.time) q) q.key (max clock c.time) (logged.admitted log version clock q)
+    (version clock : ℕ) (q : Request) → version ≡ newest c → admitted log version clock q ≡ admits.Admission (admission c.journal (max clock c.time) q)
 log_admits law machines c log s version clock q knows =
     let known : version ≡ log.newest.version.0 = knows ∙ sym (version_told machines c log s) in
-    let same = law c.journal log s.journal version clock q
-    ∙ ap (λ (time : ℕ). logged.admission log.newest.version.0 c.journal time version clock q) s.time
-    ∙ not_deposed version log.newest.version.0 (logged.by_key q.key (max clock c.time) (logged.found_in c.journal q q.key (max clock c.time)) (length c.journal)) known in
-    subst (IsSaid (admission c.journal (max clock c.time) q) q.key (max clock c.time)) (sym same) (said_key c.journal (max clock c.time) q q.key)
+    law c.journal log s.journal version clock q
+    ∙ ap (λ (time : ℕ). admitted_by log.newest.version.0 c.journal time version clock q) s.time
+    ∙ not_deposed version log.newest.version.0 (admission c.journal (max clock c.time) q) known
 
 -- ---- an entry that is repeated
 
@@ -95,7 +60,7 @@ IfSame P New = Unit {0}
 abbrev HoldsAKey : List Entry → ℕ → ℕ → Type 0
 HoldsAKey journal now i = (key : Key) × Passes (is_held now key) journal i
 
-same_room : (journal : List Entry) (now : ℕ) → IfSame (HoldsAKey journal now) (by_room journal)
+same_room : (journal : List Entry) (now : ℕ) → IfSame (HoldsAKey journal now) (by_room (length journal))
 same_room journal now = either_so (IfSame (HoldsAKey journal now)) (nat_le JOURNAL_LIMIT (length journal)) Full New (λ full. tt) (λ room. tt)
 
 same_entry : (journal : List Entry) (now i : ℕ) (q : Request) (key : Key) (o : Option Entry) → HoldsAKey journal now i → IfSame (HoldsAKey journal now) (against_entry i q key o)

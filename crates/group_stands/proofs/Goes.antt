@@ -1,11 +1,14 @@
 -- How a log goes on standing for a group: beside its keeper's work, where a request joins, an entry is run, or a
 -- checkpoint is written.
 use Rattle.std.proofs.Common.{◌≡◌, ℕ, ◌+◌, ◌<◌, ◌≤◌, inl, inr, max, Bool, true, false, cond, true≢false, not, List, [], ◌∷◌, ◌++◌, length, length-append, Option, Some, None, refl, sym, ap, subst, ◌∙◌, leb-false, arith}
-use Rattle.std.specs.Prelude.{◌==◌, nat_le, nat_lt, slice_get}
+use Rattle.std.specs.Prelude.{◌==◌, nat_le, nat_lt, slice_get, unwrap_or}
 use Rattle.std.proofs.lemmas.Bool.Decides.{nat_tests}
 use Rattle.std.proofs.lemmas.Option.{slice_get_within}
+use Rattle.ft_base.specs.Admissions.{by_room}
 use Rattle.ft_base.specs.Machine.{Machine, Fits}
-use Rattle.ft_base.specs.Journal.{Entry, IsJournal, after, reply_at}
+use Rattle.ft_base.specs.declared.admissions.Admission.{Admission}
+use Rattle.ft_base.specs.declared.admissions.Admission.TheVariants.{Expired, Full, New}
+use Rattle.ft_base.specs.Journal.{Entry, IsJournal, after, reply_at, is_call, is_unexpired}
 use Rattle.ft_base.specs.Laws.{AllGoOnFitting, RepliesStay}
 use Rattle.ft_base.specs.declared.limits.TheConstants.{ARGUMENTS_LIMIT, JOURNAL_LIMIT}
 use Rattle.ft_base.specs.declared.numbers.Tick.{Tick}
@@ -13,16 +16,16 @@ use Rattle.ft_base.specs.declared.numbers.Version.{Version}
 use Rattle.ft_base.specs.declared.requests.Key.{Key}
 use Rattle.ft_base.specs.declared.requests.Outcome.{Outcome}
 use Rattle.ft_base.specs.declared.requests.Request.{Request}
-use Rattle.reply_table.specs.Entries.{unanswered, without, is_call, joined as with_row, is_unexpired, answered, with_reply}
+use Rattle.reply_table.specs.Entries.{unanswered, without, joined as with_row, replied, answered, with_reply}
 use Rattle.reply_table.specs.declared.entries.Found.{Found}
 use Rattle.reply_table.specs.declared.entries.Found.TheVariants as founds
 use Rattle.reply_table.specs.declared.entries.Retained.{Retained}
-use Rattle.message_log.specs.Admission.{admitted, by_key, by_found, by_room, unless_deposed}
+use Rattle.message_log.specs.Admission.{admitted, by_table, by_found, unless_deposed}
 use Rattle.message_log.specs.Calls.{with_entry, with_outcome, checkpointed}
 use Rattle.message_log.specs.Laws.{StandsWithEntry, StandsCut, StandsAnswered}
 use Rattle.message_log.specs.Picture.{Picture as LogPicture, Reserved, length_of}
 use Rattle.message_log.specs.Standing.{StandsFor}
-use Rattle.message_log.specs.declared.answers.Admit.TheVariants.{Deposed, Expired, Full, New}
+use Rattle.message_log.specs.declared.answers.Admit.TheVariants as admits
 use Rattle.group_model.specs.Agreeing.{IsLogged, IsSoundCommon}
 use Rattle.group_model.specs.Plain.{Common, state_at, with_ran}
 use Rattle.group_model.specs.Serving.{joined}
@@ -57,6 +60,11 @@ sound_ran m c n le s = record {
   numbers = record { mark = omega (arith, s.numbers.mark); ran = omega (arith, s.numbers.ran, le); fresh = s.numbers.fresh };
 }
 
+-- a reply that is there is the entry's one reply
+first_is : (reply : Option Outcome) (b : Bool) (one : Outcome) → reply ≡ cond b (Some one) None → unwrap_or reply one ≡ one
+first_is reply true one is = ap (λ (o : Option Outcome). unwrap_or o one) is
+first_is reply false one is = ap (λ (o : Option Outcome). unwrap_or o one) is
+
 answered_next : (m : Machine) (opening : List ℕ) (journal : List Entry) (ran : ℕ) (table : List Retained) (position : ℕ) (outcome : Outcome) →
     outcome ≡ reply_at m opening journal position → position ≤ ran → AreAnswered m opening journal ran table →
     AreAnswered m opening journal (max ran (position + 1)) (with_reply table position outcome)
@@ -66,25 +74,36 @@ answered_next m opening journal ran table position outcome is le are n r at =
     (go old.0 (are n old.0 old.1) (old.0.position == position) refl)
   where
     go : (x : Retained) → x.reply ≡ reply_once_run m opening journal ran x.position → (b : Bool) → (x.position == position) ≡ b →
-        (cond b (record x { reply = Some outcome }) x).reply ≡ reply_once_run m opening journal (max ran (position + 1)) (cond b (record x { reply = Some outcome }) x).position
+        (cond b (replied outcome x) x).reply ≡ reply_once_run m opening journal (max ran (position + 1)) (cond b (replied outcome x) x).position
     go x old true t =
         let here : x.position ≡ position = grind (arith, nat_tests) in
         let run : nat_lt x.position (max ran (position + 1)) ≡ true = grind (arith, nat_tests) in
-        ap Some (is ∙ ap (reply_at m opening journal) (sym here)) ∙ ap (λ b. cond b (Some (reply_at m opening journal x.position)) None) (sym run)
+        let one : outcome ≡ reply_at m opening journal x.position = is ∙ ap (reply_at m opening journal) (sym here) in
+        ap (λ (o : Outcome). Some (unwrap_or x.reply o)) one
+        ∙ ap Some (first_is x.reply (nat_lt x.position ran) (reply_at m opening journal x.position) old)
+        ∙ ap (λ b. cond b (Some (reply_at m opening journal x.position)) None) (sym run)
     go x old false t =
         let same : nat_lt x.position ran ≡ nat_lt x.position (max ran (position + 1)) = grind (arith, nat_tests) in
         old ∙ ap (λ b. cond b (Some (reply_at m opening journal x.position)) None) same
 
+-- behind the mark replies are given
+behind : (position mark : ℕ) (table : List Retained) (outcome : Outcome) → mark ≤ position →
+    with_reply table position outcome ≡ cond (nat_lt position mark) table (with_reply table position outcome)
+behind position mark table outcome le =
+    let no : nat_lt position mark ≡ false = grind (arith, nat_tests) in ap (λ b. cond b table (with_reply table position outcome)) (sym no)
+
 pub log_answered : StandsAnswered → (machines : ℕ → Machine) (c : Common) (log : LogPicture) → LogStands machines c log →
-    (position : ℕ) (outcome : Outcome) → outcome ≡ reply_at (machines c.kind) c.opening c.journal position → position ≤ c.ran → position < length c.journal →
+    (position : ℕ) (outcome : Outcome) → outcome ≡ reply_at (machines c.kind) c.opening c.journal position → c.mark ≤ position → position ≤ c.ran → position < length c.journal →
     LogStands machines (with_ran (position + 1) c) (with_outcome log position outcome)
-log_answered law machines c log s position outcome is le inside = record {
+log_answered law machines c log s position outcome is marked le inside = record {
   views = s.views;
   mark = s.mark;
   time = s.time;
   journal = law c.journal log s.journal position outcome;
   state = s.state;
-  replies = answered_next (machines c.kind) c.opening c.journal c.ran log.table position outcome is le s.replies;
+  replies =
+      subst (AreAnswered (machines c.kind) c.opening c.journal (max c.ran (position + 1))) (behind position log.mark log.table outcome (omega (arith, s.mark, marked)))
+      (answered_next (machines c.kind) c.opening c.journal c.ran log.table position outcome is le s.replies);
   sound = sound_ran (machines c.kind) c (position + 1) (omega (arith, inside)) s.sound;
 }
 
@@ -98,25 +117,28 @@ by_room_new count h = go (nat_le JOURNAL_LIMIT count) refl h
     go true t k = absurd cc
     go false t k = leb-false JOURNAL_LIMIT count t
 
-by_found_new : (what : Found) (count : ℕ) → by_found what count ≡ New → count < JOURNAL_LIMIT
-by_found_new founds.Fresh count h = by_room_new count h
-by_found_new (founds.Same i) count h = absurd cc
-by_found_new (founds.Other i) count h = absurd cc
+by_found_new : (count : ℕ) (what : Found) → by_found count what ≡ New → count < JOURNAL_LIMIT
+by_found_new count founds.Fresh h = by_room_new count h
+by_found_new count (founds.Same i) h = absurd cc
+by_found_new count (founds.Other i) h = absurd cc
 
-by_key_new : (key : Option Key) (now : ℕ) (what : Found) (count : ℕ) → by_key key now what count ≡ New → count < JOURNAL_LIMIT
-by_key_new None now what count h = by_room_new count h
-by_key_new (Some key) now what count h = go (nat_le key.expiration.0 now) h
+by_table_new : (key : Option Key) (now count : ℕ) (what : Found) → by_table key now count what ≡ New → count < JOURNAL_LIMIT
+by_table_new None now count what h = by_room_new count h
+by_table_new (Some key) now count what h = go (nat_le key.expiration.0 now) h
   where
-    go : (b : Bool) → cond b (Expired (record { 0 = now })) (by_found what count) ≡ New → count < JOURNAL_LIMIT
+    go : (b : Bool) → cond b (Expired key.expiration) (by_found count what) ≡ New → count < JOURNAL_LIMIT
     go true k = absurd cc
-    go false k = by_found_new what count k
+    go false k = by_found_new count what k
 
-pub new_has_room : (newest version : ℕ) (key : Option Key) (now : ℕ) (what : Found) (count : ℕ) → unless_deposed newest version (by_key key now what count) ≡ New → count < JOURNAL_LIMIT
-new_has_room newest version key now what count h = go (nat_lt version newest) h
+admission_is : (x y : Admission) → admits.Admission x ≡ admits.Admission y → x ≡ y
+admission_is x y h = cc
+
+pub new_has_room : (newest version : ℕ) (key : Option Key) (now count : ℕ) (what : Found) → unless_deposed newest version (by_table key now count what) ≡ admits.Admission New → count < JOURNAL_LIMIT
+new_has_room newest version key now count what h = go (nat_lt version newest) h
   where
-    go : (b : Bool) → cond b (Deposed (record { 0 = newest })) (by_key key now what count) ≡ New → count < JOURNAL_LIMIT
+    go : (b : Bool) → cond b (admits.Deposed (record { 0 = newest })) (admits.Admission (by_table key now count what)) ≡ admits.Admission New → count < JOURNAL_LIMIT
     go true k = absurd cc
-    go false k = by_key_new key now what count k
+    go false k = by_table_new key now count what (admission_is (by_table key now count what) New k)
 
 module _ (m : Machine) (opening : List ℕ) (journal : List Entry) (ran : ℕ) (stay : RepliesStay) (few : ran ≤ length journal) (e : Entry) where
   -- an entry that was there keeps its reply
@@ -151,7 +173,7 @@ logged_joined fitting m time now journal e logged room so fits short = record {
 }
 
 pub log_joined : StandsWithEntry → AllGoOnFitting → RepliesStay → (machines : ℕ → Machine) (c : Common) (log : LogPicture) → LogStands machines c log →
-    (version : Version) (clock : Tick) (q : Request) → admitted log version.0 clock.0 q ≡ New → Fits (machines c.kind) q → length q.args ≤ ARGUMENTS_LIMIT →
+    (version : Version) (clock : Tick) (q : Request) → admitted log version.0 clock.0 q ≡ admits.Admission New → Fits (machines c.kind) q → length q.args ≤ ARGUMENTS_LIMIT →
     LogStands machines (joined c (max clock.0 c.time) q) (with_entry log version clock q)
 log_joined law fitting stay machines c log s version clock q new fits short =
     let m = machines c.kind in
@@ -162,7 +184,7 @@ log_joined law fitting stay machines c log s version clock q new fits short =
     let stands : StandsFor (c.journal ++ e ∷ []) (with_entry log version clock q) =
     subst (λ (t : ℕ). StandsFor (c.journal ++ record { at = max clock.0 t; request = q } ∷ []) (with_entry log version clock q)) s.time
     (law c.journal log s.journal version clock q new) in
-    let room = new_has_room log.newest.version.0 version.0 q.key (max clock.0 log.time) _ (length_of log) new in
+    let room = new_has_room log.newest.version.0 version.0 q.key (max clock.0 log.time) (length_of log) _ new in
     record {
       views = s.views;
       mark = s.mark;

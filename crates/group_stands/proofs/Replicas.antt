@@ -44,7 +44,7 @@ entry_run lending answering machines c place log replica s stands loaded q outco
     record {
       log =
           subst (λ (i : ℕ). LogStands machines (with_ran (place.position + 1) c) (with_outcome log i outcome)) (sym stands.position)
-          (log_answered answering machines c log s place.position outcome reply stands.ran lent.inside);
+          (log_answered answering machines c log s place.position outcome reply lent.marked stands.ran lent.inside);
       replica = record {
         kind = stands.kind;
         loaded = stands.loaded;

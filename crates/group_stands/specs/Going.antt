@@ -5,6 +5,7 @@ use Rattle.ft_base.specs.Machine.{Machine, Fits}
 use Rattle.ft_base.specs.Journal.{reply_at}
 use Rattle.ft_base.specs.Laws.{Stays}
 use Rattle.ft_base.specs.Views.{IsView}
+use Rattle.ft_base.specs.declared.admissions.Admission.TheVariants.{New}
 use Rattle.ft_base.specs.declared.limits.TheConstants.{ARGUMENTS_LIMIT, HOST_LIMIT}
 use Rattle.ft_base.specs.declared.numbers.Tick.{Tick}
 use Rattle.ft_base.specs.declared.numbers.Version.{Version}
@@ -34,7 +35,7 @@ LogsGoOnBeside = (machines : ℕ → Machine) (c : Common) (log : LogPicture) �
 -- a request that the log admits as new joins, not run yet
 abbrev pub RequestsJoin : Type 0
 RequestsJoin = (machines : ℕ → Machine) (c : Common) (log : LogPicture) → LogStands machines c log →
-    (version : Version) (clock : Tick) (request : Request) → admitted log version.0 clock.0 request ≡ admits.New →
+    (version : Version) (clock : Tick) (request : Request) → admitted log version.0 clock.0 request ≡ admits.Admission New →
     Fits (machines c.kind) request → length request.args ≤ ARGUMENTS_LIMIT →
     LogStands machines (joined c (max clock.0 c.time) request) (with_entry log version clock request)
 

@@ -1,21 +1,19 @@
 -- What a log and a replica that stand for a group tell of it.
-use Rattle.std.specs.Prelude.{◌≡◌, ℕ, ◌<◌, ◌≤◌, max, true, length, slice_get, Option, Some}
+use Rattle.std.specs.Prelude.{◌≡◌, ℕ, ◌<◌, ◌≤◌, max, true, length, slice_get, Some}
 use Rattle.ft_base.specs.Machine.{Machine, Fits, IsGiven}
 use Rattle.ft_base.specs.Journal.{Entry, reply_at}
 use Rattle.ft_base.specs.Laws.{Stays, Gives}
 use Rattle.ft_base.specs.declared.limits.TheConstants.{ARGUMENTS_LIMIT}
-use Rattle.ft_base.specs.declared.requests.Key.{Key}
 use Rattle.ft_base.specs.declared.requests.Request.{Request}
 use Rattle.reply_table.specs.Entries.{reply_of}
 use Rattle.message_log.specs.Admission.{admitted}
 use Rattle.message_log.specs.Picture.{Picture as LogPicture, length_of, request_at}
-use Rattle.message_log.specs.declared.answers.Admit.{Admit}
 use Rattle.message_log.specs.declared.answers.Admit.TheVariants as admits
 use Rattle.ft_replica.specs.Picture.{Picture as ReplicaPicture}
 use Rattle.group_model.specs.Plain.{Common, Place, state_at}
 use Rattle.group_model.specs.Views.{newest, newest_view}
-use Rattle.group_model.specs.Admissions.{Admission, admission}
-use Rattle.group_model.specs.Admissions as admissions
+use Rattle.ft_base.specs.Admissions.{admission}
+use Rattle.ft_base.specs.declared.admissions.Admission.TheVariants as admissions
 use Rattle.group_stands.specs.Stands.{LogStands, ReplicaStands, IsCaughtUp, reply_once_run}
 
 -- ---- lengths, views, entries
@@ -50,20 +48,11 @@ LogsHaveEntries = (machines : ℕ → Machine) (c : Common) (log : LogPicture) �
 
 -- ---- admission
 
--- what the log says of a request at a moment is what the plain group says
-abbrev pub IsSaid : Admission → Option Key → ℕ → Admit → Type 0
-IsSaid says key now (admits.Deposed newest) = ⊥
-IsSaid says key now (admits.Expired at) = (at.0 ≡ now) × ((k : Key) × (key ≡ Some k) × (says ≡ admissions.Expired k.expiration))
-IsSaid says key now (admits.Same i) = says ≡ admissions.Same i
-IsSaid says key now (admits.Other i) = says ≡ admissions.Other i
-IsSaid says key now admits.Full = says ≡ admissions.Full
-IsSaid says key now admits.New = says ≡ admissions.New
-
 -- to a writer that knows the newest version the log says what the whole journal says
 abbrev pub LogsAdmit : Type 0
 LogsAdmit = (machines : ℕ → Machine) (c : Common) (log : LogPicture) → LogStands machines c log →
     (version clock : ℕ) (request : Request) → version ≡ newest c →
-    IsSaid (admission c.journal (max clock c.time) request) request.key (max clock c.time) (admitted log version clock request)
+    admitted log version clock request ≡ admits.Admission (admission c.journal (max clock c.time) request)
 
 -- ---- replies
 

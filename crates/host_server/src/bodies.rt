@@ -13,7 +13,8 @@ use iogr_reference::{Ior, repository_id, write_ior};
 use std::alloc::Global;
 use sys_faults::{Completed, SysFault, SysKind, write_fault};
 
-fn no_group() -> SysFault
+/// What is answered where there is no object of a key: OBJECT_NOT_EXIST, minor code 1.
+pub fn no_group() -> SysFault
     ensures { result ≡ no_group }
 {
     SysFault {

@@ -15,5 +15,6 @@ mod limits;
 mod replies;
 
 pub use answers::PortAnswer;
+pub use bodies::no_group;
 pub use limits::{BODY_LIMIT, PART_LIMIT};
 pub use replies::{locate_reply_bytes, message_error_bytes, reply_bytes};

@@ -1,5 +1,6 @@
 pub mod OctetLaws
 pub mod KeyLaws
+pub mod IdLaws
 pub mod Codecs
 pub mod GroupLemmas
 pub mod ListLemmas

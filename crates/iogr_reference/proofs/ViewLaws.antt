@@ -1,6 +1,7 @@
 -- A view's reference names its group.
 use Rattle.std.proofs.Common.{◌<◌, ◌^◌, ℕ, Bool, true, false, List, [], ◌∷◌, map, refl, sym, arith, rules}
 use Rattle.std.specs.Prelude.{slice_index}
+use Rattle.ft_base.specs.Views.{is_led_by}
 use Rattle.ft_base.specs.declared.numbers.GroupId.{GroupId}
 use Rattle.ft_base.specs.declared.numbers.Version.{Version}
 use Rattle.ft_base.specs.declared.views.View.{View}
@@ -14,7 +15,7 @@ use Rattle.iogr_reference.specs.declared.references.GroupTag.{GroupTag}
 use Rattle.iogr_reference.specs.Formats.{component_parts, iiop, group_tag}
 use Rattle.cdr_codec.specs.Tagged.{content_of}
 use Rattle.iogr_reference.specs.Naming.{NamesTag, TellsPrimary, IsMember, AreMembers, none, member}
-use Rattle.iogr_reference.specs.Views.{components_of, member_iiop, member_profile, is_primary_host, profile_of_host, iiop_of_host, reference_of, group_of_view, HasMembers}
+use Rattle.iogr_reference.specs.Views.{components_of, member_iiop, member_profile, profile_of_host, iiop_of_host, reference_of, group_of_view, HasMembers}
 use Rattle.iogr_reference.specs.Laws.{ViewsAreNamed, ViewsAreRead}
 use Rattle.iogr_reference.proofs.Codecs.{iiop_codec, group_tag_codec}
 use Rattle.iogr_reference.proofs.ListLemmas.{length_mapped, count_mapped, position_mapped}
@@ -53,26 +54,26 @@ is_member group version port b g v p = record {
 }
 
 are_members : (group : GroupId) (view : View) (ports hosts : List ℕ) → HasMembers group view ports
-    → AreMembers (the_tag group view.version) (map (profile_of_host group view ports) hosts) (map (iiop_of_host group view ports) hosts) (map (is_primary_host view.primary) hosts)
+    → AreMembers (the_tag group view.version) (map (profile_of_host group view ports) hosts) (map (iiop_of_host group view ports) hosts) (map (is_led_by view) hosts)
 are_members group view ports [] h = none
 are_members group view ports (host ∷ hosts) h =
     member (profile_of_host group view ports host) (map (profile_of_host group view ports) hosts) (iiop_of_host group view ports host) (map (iiop_of_host group view ports) hosts)
-    (is_primary_host view.primary host) (map (is_primary_host view.primary) hosts)
-    (is_member group view.version (slice_index ports host) (is_primary_host view.primary host) h.group_fits h.version_fits (h.ports_fit host))
+    (is_led_by view host) (map (is_led_by view) hosts)
+    (is_member group view.version (slice_index ports host) (is_led_by view host) h.group_fits h.version_fits (h.ports_fit host))
     (are_members group view ports hosts h)
 
 pub views_are_named : ViewsAreNamed
 views_are_named group type_id view ports h =
     let hosts = view.members in
     let long = length_mapped (iiop_of_host group view ports) hosts in
-    let counted = count_mapped (is_primary_host view.primary) (λ (mark : Bool). mark) hosts in
+    let counted = count_mapped (is_led_by view) (λ (mark : Bool). mark) hosts in
     record {
-      marks = map (is_primary_host view.primary) hosts;
+      marks = map (is_led_by view) hosts;
       members = are_members group view ports hosts h;
       some = let some = h.some in omega arith;
       few = let few = h.few in omega arith;
       once = let once = h.once in omega arith;
-      primary = sym (position_mapped (is_primary_host view.primary) (λ (mark : Bool). mark) hosts);
+      primary = sym (position_mapped (is_led_by view) (λ (mark : Bool). mark) hosts);
       type_id = refl;
     }
 

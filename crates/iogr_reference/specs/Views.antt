@@ -1,10 +1,10 @@
 -- The reference of a view: a profile of each member, in order of joining, which names the group and
 -- its version; the primary's says besides that it is the primary. (Chapter 23, "Object group
 -- references".)
-use Rattle.std.specs.Prelude.{◌<◌, ◌≤◌, ◌^◌, length, position, count_by, ℕ, ◌==◌, Bool, true, false, List, [], ◌∷◌, slice_index, map, Option, Some, None}
+use Rattle.std.specs.Prelude.{◌<◌, ◌≤◌, ◌^◌, length, position, count_by, ℕ, Bool, true, false, List, [], ◌∷◌, slice_index, map}
 use Rattle.ft_base.specs.declared.numbers.GroupId.{GroupId}
-use Rattle.ft_base.specs.declared.numbers.HostNo.{HostNo}
 use Rattle.ft_base.specs.declared.numbers.Version.{Version}
+use Rattle.ft_base.specs.Views.{is_led_by}
 use Rattle.ft_base.specs.declared.views.View.{View}
 use Rattle.ft_base.specs.declared.views.TheConstants.{MEMBER_LIMIT}
 use Rattle.cdr_codec.specs.declared.orders.Order.TheVariants.{Big}
@@ -39,24 +39,32 @@ iiop_with port key components = record { minor = 2; host = ADDRESS; port = port;
 abbrev pub member_iiop : GroupId → Version → ℕ → Bool → Iiop
 member_iiop group version port is_primary = iiop_with port (object_key group) (components_of group version is_primary)
 
-abbrev pub member_profile : GroupId → Version → ℕ → Bool → Profile
-member_profile group version port is_primary = record { tag = IIOP_TAG; content = encapsulated Big iiop (member_iiop group version port is_primary) }
+-- the group's object key at a port
+abbrev pub profile_with : GroupId → ℕ → List Component → Profile
+profile_with group port components = record { tag = IIOP_TAG; content = encapsulated Big iiop (iiop_with port (object_key group) components) }
 
-abbrev pub is_primary_host : Option HostNo → ℕ → Bool
-is_primary_host None host = false
-is_primary_host (Some primary) host = primary.0 == host
+abbrev pub member_profile : GroupId → Version → ℕ → Bool → Profile
+member_profile group version port is_primary = profile_with group port (components_of group version is_primary)
 
 abbrev pub profile_of_host : GroupId → View → List ℕ → ℕ → Profile
-profile_of_host group view ports host = member_profile group view.version (slice_index ports host) (is_primary_host view.primary host)
+profile_of_host group view ports host = member_profile group view.version (slice_index ports host) (is_led_by view host)
 
 -- ports has the port of each host, by the host's number
 abbrev pub reference_of : GroupId → List ℕ → View → List ℕ → Ior
 reference_of group type_id view ports = record { type_id = type_id; profiles = map (profile_of_host group view ports) view.members }
 
+-- ---- the reference of one member
+
+-- its profile has no components, so it names no group (chapter 23, `get_member_ref`); ports has the port of each
+-- host, by the host's number
+abbrev pub plain_reference : GroupId → List ℕ → ℕ → List ℕ → Ior
+plain_reference group type_id host ports =
+    record { type_id = type_id; profiles = profile_with group (slice_index ports host) [] ∷ [] }
+
 -- ---- the group of a view
 
 abbrev pub iiop_of_host : GroupId → View → List ℕ → ℕ → Iiop
-iiop_of_host group view ports host = member_iiop group view.version (slice_index ports host) (is_primary_host view.primary host)
+iiop_of_host group view ports host = member_iiop group view.version (slice_index ports host) (is_led_by view host)
 
 -- a view's numbers fit; it has members, and one of them at most is the primary
 pub record HasMembers (group : GroupId) (view : View) (ports : List ℕ) : Type 0 where
@@ -65,7 +73,7 @@ pub record HasMembers (group : GroupId) (view : View) (ports : List ℕ) : Type 
   pub ports_fit : (host : ℕ) → slice_index ports host < 2 ^ 16
   pub some : 0 < length view.members
   pub few : length view.members ≤ MEMBER_LIMIT
-  pub once : count_by (is_primary_host view.primary) view.members ≤ 1
+  pub once : count_by (is_led_by view) view.members ≤ 1
 
 abbrev pub group_of_view : GroupId → List ℕ → View → List ℕ → GroupRef
 group_of_view group type_id view ports = record {
@@ -74,5 +82,5 @@ group_of_view group type_id view ports = record {
   version = view.version;
   type_id = type_id;
   profiles = map (iiop_of_host group view ports) view.members;
-  primary = position (is_primary_host view.primary) view.members;
+  primary = position (is_led_by view) view.members;
 }

@@ -2,7 +2,7 @@
 ghost use Rattle.std.specs.Prelude.{ℕ};
 ghost use Rattle.cdr_codec.specs.declared.faults.CdrWhy.TheVariants as causes;
 ghost use Rattle.cdr_codec.specs.Laws.{IsCodec, RefusesExactly, ReadsBack};
-ghost use Rattle.iogr_reference.specs.Choices.{KeysNameGroups};
+ghost use Rattle.iogr_reference.specs.Choices.{IdsNameNames, KeysNameGroups};
 ghost use Rattle.iogr_reference.specs.Formats.{profile, profiles, ior, components_at, iiop, group_tag};
 ghost use Rattle.iogr_reference.specs.Laws.{ViewsAreNamed, ViewsAreRead, TextsAreSpelled, TextsAreRead};
 
@@ -51,4 +51,10 @@ pub fn texts_are_read()
 /// Each group's number is read from its object key, and no other key reads as a number.
 pub fn keys_name_groups()
     ensures { KeysNameGroups }
+{}
+
+/// The repository id of a name is that of no other, and is read as that name.
+#[tactic(auto, using(crate::proofs::IdLaws::ids_name_names))]
+pub fn ids_name_names()
+    ensures { IdsNameNames }
 {}

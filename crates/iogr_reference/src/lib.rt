@@ -19,6 +19,7 @@
 mod choices;
 mod faults;
 mod groups;
+mod ids;
 mod insides;
 mod keys;
 mod laws;
@@ -27,6 +28,7 @@ mod reading;
 mod references;
 mod tags;
 mod texts;
+mod view_groups;
 mod views;
 mod writing;
 
@@ -35,10 +37,11 @@ pub use choices::{
 };
 pub use faults::{IorFault, RefFault, TextFault};
 pub use groups::group_ref_of;
+pub use ids::{name_of_id, repository_id};
 pub use insides::key_of;
-pub use keys::{group_of_key, object_key, port_of, repository_id};
+pub use keys::{group_of_key, object_key, port_of};
 pub use laws::{
-    keys_name_groups, references_are_codecs, references_are_read_back,
+    ids_name_names, keys_name_groups, references_are_codecs, references_are_read_back,
     references_are_refused_exactly, texts_are_read, views_are_named,
 };
 pub use lists::{Components, IiopList, Ports, Profiles};
@@ -46,5 +49,6 @@ pub use reading::{read_ior, read_profile};
 pub use references::{Component, GroupRef, GroupTag, Iiop, Ior, Profile};
 pub use tags::{GROUP_TAG, IIOP_TAG, PRIMARY_TAG};
 pub use texts::{from_text, to_text};
-pub use views::{member_components, ref_of};
+pub use view_groups::view_reference;
+pub use views::{plain_ref, ref_of};
 pub use writing::write_ior;

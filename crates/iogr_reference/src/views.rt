@@ -6,8 +6,9 @@ ghost use Rattle.cdr_codec.specs.declared.orders.Order.TheVariants as orders;
 ghost use Rattle.cdr_codec.specs.Calls.{appended};
 ghost use Rattle.cdr_codec.specs.Encapsulations.{encapsulated};
 ghost use Rattle.cdr_codec.specs.Tagged.{IsShort};
+ghost use Rattle.iogr_reference.specs.Choices.{object_key};
 ghost use Rattle.iogr_reference.specs.Formats.{profile_parts, component_parts, components_at, iiop, group_tag, AreShort, AreShortComponents, IsWritable};
-ghost use Rattle.iogr_reference.specs.Views.{iiop_with, member_iiop, profile_of_host, group_component as the_group_component, primary_component as the_primary_component, components_of, member_profile as the_profile, is_primary_host, reference_of};
+ghost use Rattle.iogr_reference.specs.Views.{iiop_with, profile_of_host, profile_with as a_profile, group_component as the_group_component, primary_component as the_primary_component, components_of, plain_reference, reference_of};
 
 use crate::choices::{ADDRESS, DOMAIN};
 use crate::keys::object_key;
@@ -72,7 +73,7 @@ fn primary_component(alloc: Global) -> Result<Component, NoMemory>
 }
 
 /// The components of a member's profile: the group's, and the primary's where it is the primary.
-pub fn member_components(
+pub(crate) fn member_components(
     alloc: Global,
     group: GroupId,
     version: Version,
@@ -103,7 +104,7 @@ fn write_components(components: &[Component], writer: &mut CdrWriter) -> Result<
 }
 
 #[tactic(auto, using(crate::proofs::ViewLemmas::iiop_written))]
-fn write_member(
+fn write_address(
     port: u16,
     key: &[u8],
     components: &[Component],
@@ -123,47 +124,41 @@ fn write_member(
     Ok(())
 }
 
-fn member_bytes(
+fn address_bytes(
     alloc: Global,
     group: GroupId,
-    version: Version,
     port: u16,
-    is_primary: bool,
+    components: &[Component],
 ) -> Result<Bytes, NoMemory>
-    ensures bytes { IfOk result (λ bytes. bytes ≡ encapsulated orders.Big iiop (member_iiop group version port is_primary)) }
+    requires count { length components.now < 2 ^ 32 }
+    requires short { AreShortComponents components.now }
+    requires content { length (a_profile group port components.now).content ≤ 128 }
+    ensures bytes { IfOk result (λ bytes. bytes ≡ encapsulated orders.Big iiop (iiop_with port (object_key group) components.now)) }
     ensures short { IfOk result (λ bytes. length bytes + 8 < 2 ^ 32) }
 {
-    let components = member_components(alloc, group, version, is_primary)?;
     let key = object_key(alloc, group)?;
     let mut writer = begin_encapsulation(alloc, Order::Big)?;
-    write_member(port, key.bytes(), components.as_slice(), &mut writer)?;
+    write_address(port, key.bytes(), components, &mut writer)?;
     Ok(writer.finish())
 }
 
-fn member_profile(
+fn profile_with(
     alloc: Global,
     group: GroupId,
-    version: Version,
     port: u16,
-    is_primary: bool,
+    components: &[Component],
 ) -> Result<Profile, NoMemory>
-    ensures profile { IfOk result (λ p. p ≡ the_profile group version port is_primary) }
+    requires count { length components.now < 2 ^ 32 }
+    requires short { AreShortComponents components.now }
+    requires content { length (a_profile group port components.now).content ≤ 128 }
+    ensures profile { IfOk result (λ p. p ≡ a_profile group port components.now) }
     ensures short { IfOk result (IsShort profile_parts) }
 {
-    let content = member_bytes(alloc, group, version, port, is_primary)?;
+    let content = address_bytes(alloc, group, port, components)?;
     Ok(Profile {
         tag: IIOP_TAG,
         content,
     })
-}
-
-fn is_primary(primary: Option<HostNo>, host: u8) -> bool
-    ensures { result ≡ is_primary_host primary host }
-{
-    match primary {
-        None => false,
-        Some(primary) => primary.0 == host,
-    }
 }
 
 fn profile_of(
@@ -178,13 +173,9 @@ fn profile_of(
     ensures short { IfOk result (IsShort profile_parts) }
 {
     let port = ports.as_slice()[host as usize];
-    member_profile(
-        alloc,
-        group,
-        view.version,
-        port,
-        is_primary(view.primary, host),
-    )
+    let is_primary = view.is_led_by(HostNo(host));
+    let components = member_components(alloc, group, view.version, is_primary)?;
+    profile_with(alloc, group, port, components.as_slice())
 }
 
 fn profiles_of(
@@ -222,4 +213,29 @@ pub fn ref_of(
     let type_id = Bytes::of(alloc, type_id.bytes())?;
     let profiles = profiles_of(alloc, group, view, ports)?;
     Ok(Ior { type_id, profiles })
+}
+
+/// The reference of a group's one member, which names no group: its profile has no components.
+#[tactic(auto, using(crate::proofs::ViewLemmas::plain_short))]
+pub fn plain_ref(
+    alloc: Global,
+    group: GroupId,
+    type_id: &Name,
+    host: HostNo,
+    ports: &Ports,
+) -> Result<Ior, NoMemory>
+    requires { host.0 < length ports.now }
+    ensures reference { IfOk result (λ i. i ≡ plain_reference group type_id.now host.0 ports.now) }
+    ensures writable { IfOk result IsWritable }
+    ensures short { IfOk result (λ i. AreShort i.profiles) }
+{
+    let port = ports.as_slice()[host.0 as usize];
+    let profile = profile_with(alloc, group, port, &[])?;
+    let type_id = Bytes::of(alloc, type_id.bytes())?;
+    let mut profiles = Vec::new(alloc);
+    profiles.push(profile)?;
+    Ok(Ior {
+        type_id,
+        profiles: Profiles::from_vec(profiles),
+    })
 }

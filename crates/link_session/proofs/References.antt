@@ -4,6 +4,7 @@ use Rattle.std.proofs.lemmas.Bool.{leb-true}
 use Rattle.std.proofs.lemmas.List.Elements.{All-nil, All-cons}
 use Rattle.std.specs.Prelude.{slice_index}
 use Rattle.ft_base.specs.Canonical.{padding}
+use Rattle.ft_base.specs.Views.{is_led_by}
 use Rattle.ft_base.specs.declared.numbers.GroupId.{GroupId}
 use Rattle.ft_base.specs.declared.numbers.Version.{Version}
 use Rattle.ft_base.specs.declared.text.TheConstants.{NAME_LIMIT}
@@ -15,7 +16,7 @@ use Rattle.cdr_codec.specs.Values.{text}
 use Rattle.cdr_codec.proofs.Lengths.{number_length}
 use Rattle.iogr_reference.specs.declared.references.Profile.{Profile}
 use Rattle.iogr_reference.specs.Formats.{ior, profile, profiles, AreCounted}
-use Rattle.iogr_reference.specs.Views.{is_primary_host, member_profile, profile_of_host, reference_of}
+use Rattle.iogr_reference.specs.Views.{member_profile, profile_of_host, reference_of}
 use Rattle.host_server.specs.declared.limits.TheConstants.{PART_LIMIT}
 use Rattle.link_session.specs.References.{ViewReferencesCanBeSent}
 
@@ -50,7 +51,7 @@ module _ (group : GroupId) (view : View) (ports : List ℕ) where
   of_hosts hosts = map (profile_of_host group view ports) hosts
 
   host_short : (host : ℕ) → length (profile_of_host group view ports host).content ≤ 128
-  host_short host = content_short group view.version (slice_index ports host) (is_primary_host view.primary host)
+  host_short host = content_short group view.version (slice_index ports host) (is_led_by view host)
 
   each_short : (order : Order) (place : ℕ) (hosts : List ℕ) → length (written_each profile.written order place (of_hosts hosts)) ≤ 142 * length hosts
   each_short order place [] = lit≤ tt

@@ -1,7 +1,7 @@
 -- What a request's message asks of a group.
 use Rattle.std.specs.Prelude.{ℕ, ◌+◌, ◌<◌, ◌^◌, List, length, Option, Some, None, Result, Ok, Err}
 use Rattle.cdr_codec.specs.declared.bodies.Raw.{Raw}
-use Rattle.ft_contexts.specs.Contents.{name_of}
+use Rattle.ft_base.specs.Text.{name_of}
 use Rattle.ft_contexts.specs.Finding.{contexts_of}
 use Rattle.ft_contexts.specs.declared.lists.Context.{Context}
 use Rattle.ft_contexts.specs.declared.lists.FtContexts.{FtContexts}

@@ -1,5 +1,4 @@
 pub mod Amid
-pub mod Answers
 pub mod Asked
 pub mod Calls
 pub mod Ports

@@ -2,12 +2,11 @@
 ghost use Rattle.std.specs.Prelude.{◌≡◌, ◌<◌, IfOk};
 ghost use Rattle.cdr_codec.specs.declared.orders.Order.{Order as ByteOrder};
 ghost use Rattle.host_server.specs.Replies.{CanReply};
-ghost use Rattle.ft_base.specs.Machine.{IsGivenAs};
+ghost use Rattle.ft_base.specs.Machine.{gives_of, IsGivenAs};
 ghost use Rattle.sys_faults.specs.Bodies.{OnUnknown};
-ghost use Rattle.link_session.specs.Answers.{gives_of};
 ghost use Rattle.link_session.specs.Ports.{end_error, malformed_error, reply_of};
 
-use ft_base::{Bytes, NoMemory, Outcome, Par, Signature};
+use ft_base::{Bytes, NoMemory, Outcome, Signature, gives_of};
 use giop_messages::{Form, Why};
 use giop_stream::StreamEnd;
 use host_server::{PortAnswer, message_error_bytes, reply_bytes};
@@ -59,15 +58,6 @@ pub fn end_bytes(alloc: Global, end: StreamEnd) -> Result<Option<Bytes>, NoMemor
         StreamEnd::Closed => Ok(None),
         StreamEnd::Malformed { why, place: _ } => malformed_bytes(alloc, why),
         StreamEnd::TooLarge(_) => error(alloc),
-    }
-}
-
-fn gives_of(signature: Option<Signature>) -> Option<Par>
-    ensures { result ≡ gives_of signature }
-{
-    match signature {
-        None => None,
-        Some(signature) => signature.gives,
     }
 }
 

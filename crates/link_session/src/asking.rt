@@ -1,6 +1,6 @@
 ghost use Rattle.std.specs.Prelude.{◌≡◌, ◌<◌, None, Some, IfOk};
 ghost use Rattle.std.specs.List.{All, AllByRecursion};
-ghost use Rattle.ft_contexts.specs.Contents.{name_of};
+ghost use Rattle.ft_base.specs.Text.{name_of};
 ghost use Rattle.ft_contexts.specs.Finding.{IsShort};
 ghost use Rattle.group_model.specs.Agreeing.{IsShortAsked};
 ghost use Rattle.link_session.specs.Asked.{asked_of, IsShortBody};

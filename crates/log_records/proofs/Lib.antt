@@ -1,3 +1,4 @@
 pub mod WritingLaws
 pub mod Codecs
 pub mod ReadingLaws
+pub mod ValidLaws

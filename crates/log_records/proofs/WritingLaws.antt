@@ -16,7 +16,8 @@ use Rattle.ft_base.specs.declared.requests.Key.{Key}
 use Rattle.ft_base.specs.declared.requests.Outcome.TheVariants.{Value, User}
 use Rattle.ft_base.specs.declared.requests.Request.{Request}
 use Rattle.ft_base.specs.declared.views.View.{View}
-use Rattle.reply_table.specs.Entries.{is_unexpired, unexpired}
+use Rattle.ft_base.specs.Journal.{is_unexpired}
+use Rattle.reply_table.specs.Entries.{unexpired}
 use Rattle.reply_table.specs.declared.entries.Retained.{Retained}
 use Rattle.log_records.specs.Records.{optional, optional_fields, key, key_fields, request, request_fields, entry, entry_fields, view, view_fields, primary_sign, outcome, outcome_fields, retained, retained_fields, checkpoint, checkpoint_fields, formed, begun}
 

@@ -2,9 +2,10 @@
 -- first octet gives its form. A value out of its range isn't read.
 use Rattle.std.specs.Prelude.{◌≡◌, ℕ, ◌+◌, ◌<◌, ◌≤◌, ◌==◌, ◌&&◌, Bool, true, false, not, nat_le, nat_lt, if◌then◌else◌, List, [], ◌∷◌, ◌++◌, length, Result, Err, is_some, Option, Some, None, Ok}
 use Rattle.std.specs.Int.{w32}
+use Rattle.std.specs.List.{AllByRecursion}
 use Rattle.ft_base.specs.Members.{is_member}
 use Rattle.ft_base.specs.Text.{name_refusal}
-use Rattle.ft_base.specs.declared.limits.TheConstants.{VIEW_LIMIT, JOURNAL_LIMIT}
+use Rattle.ft_base.specs.declared.limits.TheConstants.{HOST_LIMIT, VIEW_LIMIT, JOURNAL_LIMIT}
 use Rattle.ft_base.specs.declared.numbers.HostNo.{HostNo}
 use Rattle.ft_base.specs.declared.numbers.Tick.{Tick}
 use Rattle.ft_base.specs.declared.numbers.Version.{Version}
@@ -276,11 +277,28 @@ record_read r = (number 1).read r >>= λ form. record_by form.0 r.place form.1
 unfoldable pub record_in : List ℕ → Option Record
 record_in piece = if nat_lt (length piece + 8) 4294967296 then in_big record_read (opened piece) else None
 
+-- a version that a view can have
+abbrev pub IsVersion : Version → Type 0
+IsVersion version = (0 < version.0) × (version.0 ≤ VIEW_LIMIT)
+
+abbrev pub AreOfVersions : List Retained → Type 0
+AreOfVersions entries = AllByRecursion (λ e. IsVersion e.version) entries
+
+-- a primary is one of the members
+abbrev pub IsPrimaryOf : List ℕ → Option HostNo → Type 0
+IsPrimaryOf hosts None = Unit {0}
+IsPrimaryOf hosts (Some host) = is_member host.0 hosts ≡ true
+
+-- a view that a log can write: its members are hosts that there can be, and a primary is one of them
+pub record IsLogged (view : View) : Type 0 where
+  pub hosts : AllByRecursion (λ host. host < HOST_LIMIT) view.members
+  pub primary : IsPrimaryOf view.members view.primary
+
 -- what a record's reading gives is in its ranges
 abbrev pub IsInRange : Record → Type 0
-IsInRange (records.Entry e) = e.position < JOURNAL_LIMIT
-IsInRange (records.View v) = (0 < v.version.0) × (v.version.0 ≤ VIEW_LIMIT)
-IsInRange (records.Checkpoint k) = (k.mark ≤ JOURNAL_LIMIT) × (are_rising 0 k.mark k.retained ≡ true)
+IsInRange (records.Entry e) = (e.position < JOURNAL_LIMIT) × IsVersion e.version
+IsInRange (records.View v) = IsVersion v.version × IsLogged v
+IsInRange (records.Checkpoint k) = (k.mark ≤ JOURNAL_LIMIT) × (are_rising 0 k.mark k.retained ≡ true) × AreOfVersions k.retained
 
 -- ---- records, written
 

@@ -1,7 +1,8 @@
 //! Records, read.
 ghost use Rattle.std.specs.Prelude.{◌≡◌, ◌≤◌, ◌<◌, ◌+◌, ◌^◌, ℕ, true, length, IfOk, IfSome};
-ghost use Rattle.log_records.specs.Records.{IsInRange};
-ghost use Rattle.ft_base.specs.declared.limits.TheConstants.{VIEW_LIMIT, JOURNAL_LIMIT};
+ghost use Rattle.std.specs.List.{AllByRecursion};
+ghost use Rattle.log_records.specs.Records.{IsInRange, IsVersion, AreOfVersions, IsPrimaryOf, IsLogged};
+ghost use Rattle.ft_base.specs.declared.limits.TheConstants.{HOST_LIMIT, JOURNAL_LIMIT};
 ghost use Rattle.cdr_codec.specs.Calls.{field_fault, Gives};
 ghost use Rattle.cdr_codec.specs.Formats.{read_each};
 ghost use Rattle.cdr_codec.specs.Reading.{start};
@@ -99,7 +100,7 @@ fn request_at(alloc: Global, reader: &mut CdrReader) -> Result<Request, FieldFau
 }
 
 fn entry_at(alloc: Global, reader: &mut CdrReader) -> Result<Accepted, FieldFault>
-    ensures range { IfOk result (λ entry. entry.position < JOURNAL_LIMIT) }
+    ensures range { IfOk result (λ entry. (entry.position < JOURNAL_LIMIT) × IsVersion entry.version) }
     ensures read { Gives (λ entry. entry) field_fault result (forms.entry.read reader.old) reader.new }
 {
     let position = number_within(reader, 0, 262_143)?;
@@ -115,7 +116,8 @@ fn entry_at(alloc: Global, reader: &mut CdrReader) -> Result<Accepted, FieldFaul
 }
 
 fn members_of(hosts: &[u8]) -> Option<Members>
-    ensures { result ≡ forms.members_of hosts.now }
+    ensures value { result ≡ forms.members_of hosts.now }
+    ensures hosts { IfSome result (λ members. AllByRecursion (λ host. host < HOST_LIMIT) members) }
 {
     let mut members = Members::new();
     for host in hosts {
@@ -129,7 +131,8 @@ fn members_of(hosts: &[u8]) -> Option<Members>
 }
 
 fn members_at(reader: &mut CdrReader) -> Result<Members, FieldFault>
-    ensures { Gives (λ members. members) field_fault result (forms.members.read reader.old) reader.new }
+    ensures hosts { IfOk result (λ members. AllByRecursion (λ host. host < HOST_LIMIT) members) }
+    ensures read { Gives (λ members. members) field_fault result (forms.members.read reader.old) reader.new }
 {
     let start = start_of_long(reader);
     let hosts = reader.read_octets()?;
@@ -140,7 +143,8 @@ fn members_at(reader: &mut CdrReader) -> Result<Members, FieldFault>
 }
 
 fn primary_at(reader: &mut CdrReader, members: &Members) -> Result<Option<HostNo>, FieldFault>
-    ensures { Gives (λ primary. primary) field_fault result ((forms.primary members.now).read reader.old) reader.new }
+    ensures member { IfOk result (λ primary. IsPrimaryOf members.now primary) }
+    ensures read { Gives (λ primary. primary) field_fault result ((forms.primary members.now).read reader.old) reader.new }
 {
     let place = reader.place();
     let octet = reader.read_octet()?;
@@ -155,7 +159,7 @@ fn primary_at(reader: &mut CdrReader, members: &Members) -> Result<Option<HostNo
 }
 
 fn view_at(reader: &mut CdrReader) -> Result<View, FieldFault>
-    ensures range { IfOk result (λ view. (0 < view.version.0) × (view.version.0 ≤ VIEW_LIMIT)) }
+    ensures range { IfOk result (λ view. IsVersion view.version × IsLogged view) }
     ensures read { Gives (λ view. view) field_fault result (forms.view.read reader.old) reader.new }
 {
     let version = number_within(reader, 1, 65_536)?;
@@ -206,7 +210,8 @@ fn reply_at(alloc: Global, reader: &mut CdrReader) -> Result<Option<Outcome>, Fi
 }
 
 fn retained_at(alloc: Global, reader: &mut CdrReader) -> Result<Retained, FieldFault>
-    ensures { Gives (λ entry. entry) field_fault result (forms.retained.read reader.old) reader.new }
+    ensures range { IfOk result (λ entry. IsVersion entry.version) }
+    ensures read { Gives (λ entry. entry) field_fault result (forms.retained.read reader.old) reader.new }
 {
     let position = number_within(reader, 0, 262_143)?;
     let version = number_within(reader, 1, 65_536)?;
@@ -227,7 +232,8 @@ fn each_retained(
     count: u32,
     reader: &mut CdrReader,
 ) -> Result<Vec<Retained>, FieldFault>
-    ensures { Gives (λ all. all.items) field_fault result (read_each forms.retained.read count reader.old) reader.new }
+    ensures range { IfOk result (λ all. AreOfVersions all.items) }
+    ensures read { Gives (λ all. all.items) field_fault result (read_each forms.retained.read count reader.old) reader.new }
 {
     let mut all = Vec::new(alloc);
     for _ in 0..count {
@@ -257,6 +263,7 @@ fn retained_below(
     end: u32,
 ) -> Result<RetainedList, FieldFault>
     ensures rising { IfOk result (λ entries. forms.are_rising 0 end entries ≡ true) }
+    ensures versions { IfOk result (λ entries. AreOfVersions entries) }
     ensures read { Gives (λ entries. entries) field_fault result ((forms.retained_below end).read reader.old) reader.new }
 {
     let start = start_of_long(reader);
@@ -272,6 +279,7 @@ fn retained_below(
 fn checkpoint_at(alloc: Global, reader: &mut CdrReader) -> Result<Checkpoint, FieldFault>
     ensures range { IfOk result (λ checkpoint. checkpoint.mark ≤ JOURNAL_LIMIT) }
     ensures rising { IfOk result (λ checkpoint. forms.are_rising 0 checkpoint.mark checkpoint.retained ≡ true) }
+    ensures versions { IfOk result (λ checkpoint. AreOfVersions checkpoint.retained) }
     ensures read { Gives (λ checkpoint. checkpoint) field_fault result (forms.checkpoint.read reader.old) reader.new }
 {
     let mark = number_within(reader, 0, 262_144)?;

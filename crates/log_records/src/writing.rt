@@ -1,11 +1,16 @@
 //! Records, written.
-ghost use Rattle.std.specs.Prelude.{◌≡◌, ◌<◌, ◌^◌, ◌+◌, ℕ, length, OnOk, IfOk, drop, option_copied};
+ghost use Rattle.std.specs.Prelude.{◌≡◌, ◌<◌, ◌≤◌, ◌^◌, ◌+◌, ℕ, length, OnOk, IfOk, drop, option_copied};
+ghost use Rattle.std.specs.List.{AllByRecursion};
+ghost use Rattle.ft_base.specs.declared.limits.TheConstants.{JOURNAL_LIMIT};
 ghost use Rattle.std.specs.List.{cons_option};
 ghost use Rattle.cdr_codec.specs.Calls.{appended, appended_each};
 ghost use Rattle.cdr_codec.specs.Formats.{octets};
-ghost use Rattle.reply_table.specs.Entries.{is_unexpired, unexpired};
+ghost use Rattle.ft_base.specs.Journal.{is_unexpired};
+ghost use Rattle.reply_table.specs.Entries.{unexpired};
 ghost use Rattle.log_records.specs.Records as forms;
-ghost use Rattle.log_records.specs.Records.{entry_record, view_record, checkpoint_record, begun};
+ghost use Rattle.log_records.specs.Records.{entry_record, view_record, checkpoint_record, begun, IsVersion, IsLogged};
+ghost use Rattle.log_records.specs.Writable.{IsShort, IsWritable, CanStand, IsHeld};
+ghost use Rattle.log_records.specs.declared.records.Record.TheVariants as records;
 
 use cdr_codec::{CdrWriter, Order};
 use ft_base::{
@@ -36,6 +41,7 @@ pub(crate) const CHECKPOINT: u8 = 3;
 /// A sequence of octets; there is no memory for one that is too long for a record.
 fn write_bytes(writer: &mut CdrWriter, bytes: &[u8]) -> Result<(), NoMemory>
     ensures written { OnOk result (writer.new ≡ appended octets.written bytes.now writer.old) }
+    ensures valid { OnOk result (octets.Valid bytes.now) }
 {
     if bytes.len() >= RECORD_LIMIT {
         return Err(NoMemory);
@@ -43,9 +49,10 @@ fn write_bytes(writer: &mut CdrWriter, bytes: &[u8]) -> Result<(), NoMemory>
     writer.write_octets(bytes)
 }
 
-#[tactic(auto, using(crate::proofs::WritingLaws::key_written))]
+#[tactic(auto, using(crate::proofs::WritingLaws::key_written, crate::proofs::ValidLaws::key_valid))]
 fn write_key(writer: &mut CdrWriter, key: &Key) -> Result<(), NoMemory>
     ensures written { OnOk result (writer.new ≡ appended forms.key.written key.now writer.old) }
+    ensures valid { OnOk result (forms.key.Valid key.now) }
 {
     let retention = key.retention.0;
     let expiration = key.expiration.0;
@@ -55,9 +62,10 @@ fn write_key(writer: &mut CdrWriter, key: &Key) -> Result<(), NoMemory>
     Ok(())
 }
 
-#[tactic(auto, using(crate::proofs::WritingLaws::none_written, crate::proofs::WritingLaws::some_written))]
+#[tactic(auto, using(crate::proofs::WritingLaws::none_written, crate::proofs::WritingLaws::some_written, crate::proofs::ValidLaws::none_valid, crate::proofs::ValidLaws::some_valid))]
 fn write_optional_key(writer: &mut CdrWriter, key: &Option<Key>) -> Result<(), NoMemory>
     ensures written { OnOk result (writer.new ≡ appended (forms.optional forms.key).written key.now writer.old) }
+    ensures valid { OnOk result ((forms.optional forms.key).Valid key.now) }
 {
     match key {
         None => {
@@ -72,9 +80,10 @@ fn write_optional_key(writer: &mut CdrWriter, key: &Option<Key>) -> Result<(), N
     }
 }
 
-#[tactic(auto, using(crate::proofs::WritingLaws::request_written))]
+#[tactic(auto, using(crate::proofs::WritingLaws::request_written, crate::proofs::ValidLaws::request_valid))]
 fn write_request(writer: &mut CdrWriter, request: &Request) -> Result<(), NoMemory>
     ensures written { OnOk result (writer.new ≡ appended forms.request.written request.now writer.old) }
+    ensures valid { OnOk result (forms.request.Valid request.now) }
 {
     write_optional_key(writer, &request.key)?;
     writer.write_string(request.op.bytes())?;
@@ -91,10 +100,13 @@ fn write_entry(
     request: &Request,
 ) -> Result<(), NoMemory>
     ensures written { OnOk result (writer.new ≡ appended forms.entry.written (record { position = position; version = version; at = at; request = request.now }) writer.old) }
+    ensures tick { OnOk result (forms.tick.Valid at) }
+    ensures valid { OnOk result (forms.request.Valid request.now) }
 {
+    let tick = at.0;
     writer.write_u32(position)?;
     writer.write_u32(version.0)?;
-    writer.write_u64(at.0)?;
+    writer.write_u64(tick)?;
     write_request(writer, request)?;
     Ok(())
 }
@@ -112,7 +124,7 @@ fn begin(alloc: Global, form: u8, room: usize) -> Result<CdrWriter, NoMemory>
 /// The record that a writer has written.
 fn finish(writer: CdrWriter) -> Result<Bytes, NoMemory>
     ensures record { IfOk result (λ bytes. bytes ≡ writer.text) }
-    ensures short { IfOk result (λ bytes. length bytes + 8 < 2 ^ 32) }
+    ensures short { IfOk result (λ bytes. IsShort bytes) }
 {
     if writer.bytes().len() >= RECORD_LIMIT {
         return Err(NoMemory);
@@ -131,7 +143,8 @@ fn entry_room(request: &Request) -> usize {
     ENTRY_ROOM + client + request.op.bytes().len() + args
 }
 
-/// The record of an accepted request.
+/// The record of an accepted request. It can be read again, where the position is a journal's and the
+/// version a view's.
 #[tactic(auto, using(crate::proofs::WritingLaws::formed_written), unfolding(crate::specs::Records::entry_record))]
 pub fn entry_record(
     alloc: Global,
@@ -140,7 +153,8 @@ pub fn entry_record(
     at: Tick,
     request: &Request,
 ) -> Result<Bytes, NoMemory>
-    ensures { IfOk result (λ bytes. bytes ≡ entry_record (record { position = position; version = version; at = at; request = request.now })) }
+    ensures written { IfOk result (λ bytes. bytes ≡ entry_record (record { position = position; version = version; at = at; request = request.now })) }
+    ensures writable { IfOk result (λ bytes. position < JOURNAL_LIMIT → IsVersion version → IsWritable (records.Entry (record { position = position; version = version; at = at; request = request.now }))) }
 {
     let mut writer = begin(alloc, ENTRY, entry_room(request))?;
     write_entry(&mut writer, position, version, at, request)?;
@@ -169,19 +183,23 @@ fn write_view(writer: &mut CdrWriter, view: &View) -> Result<(), NoMemory>
     Ok(())
 }
 
-/// The record of a view.
+/// The record of a view. It can be read again, where the version is a view's and the members are hosts.
 #[tactic(auto, using(crate::proofs::WritingLaws::formed_written), unfolding(crate::specs::Records::view_record))]
 pub fn view_record(alloc: Global, view: &View) -> Result<Bytes, NoMemory>
-    ensures { IfOk result (λ bytes. bytes ≡ view_record view.now) }
+    ensures written { IfOk result (λ bytes. bytes ≡ view_record view.now) }
+    ensures writable { IfOk result (λ bytes. IsVersion view.now.version → IsLogged view.now → IsWritable (records.View view.now)) }
 {
+    // Their number is what says that members differ.
+    let _count = view.members.len();
     let mut writer = begin(alloc, VIEW, RECORD_ROOM)?;
     write_view(&mut writer, view)?;
     finish(writer)
 }
 
-#[tactic(auto, using(crate::proofs::WritingLaws::value_written, crate::proofs::WritingLaws::user_written))]
+#[tactic(auto, using(crate::proofs::WritingLaws::value_written, crate::proofs::WritingLaws::user_written, crate::proofs::ValidLaws::value_valid, crate::proofs::ValidLaws::user_valid))]
 fn write_outcome(writer: &mut CdrWriter, outcome: &Outcome) -> Result<(), NoMemory>
     ensures written { OnOk result (writer.new ≡ appended forms.outcome.written outcome.now writer.old) }
+    ensures valid { OnOk result (forms.outcome.Valid outcome.now) }
 {
     match outcome {
         Outcome::Value(value) => {
@@ -197,9 +215,10 @@ fn write_outcome(writer: &mut CdrWriter, outcome: &Outcome) -> Result<(), NoMemo
     }
 }
 
-#[tactic(auto, using(crate::proofs::WritingLaws::none_written, crate::proofs::WritingLaws::some_written))]
+#[tactic(auto, using(crate::proofs::WritingLaws::none_written, crate::proofs::WritingLaws::some_written, crate::proofs::ValidLaws::none_valid, crate::proofs::ValidLaws::some_valid))]
 fn write_reply(writer: &mut CdrWriter, reply: &Option<Outcome>) -> Result<(), NoMemory>
     ensures written { OnOk result (writer.new ≡ appended (forms.optional forms.outcome).written reply.now writer.old) }
+    ensures valid { OnOk result ((forms.optional forms.outcome).Valid reply.now) }
 {
     match reply {
         None => {
@@ -217,6 +236,7 @@ fn write_reply(writer: &mut CdrWriter, reply: &Option<Outcome>) -> Result<(), No
 #[tactic(auto, using(crate::proofs::WritingLaws::retained_written))]
 fn write_retained(writer: &mut CdrWriter, entry: &Retained) -> Result<(), NoMemory>
     ensures written { OnOk result (writer.new ≡ appended forms.retained.written entry.now writer.old) }
+    ensures valid { OnOk result (IsHeld entry.now) }
 {
     let position = entry.position;
     let version = entry.version.0;
@@ -281,6 +301,7 @@ fn write_unexpired(
 ) -> Result<(), NoMemory>
     requires { count ≡ length table.now.entries }
     ensures written { OnOk result (writer.new ≡ appended_each forms.retained.written (unexpired time.0 table.now.entries) writer.old) }
+    ensures valid { OnOk result (AllByRecursion IsHeld (unexpired time.0 table.now.entries)) }
 {
     for index in 0..count {
         if let Some(entry) = unexpired_at(table, index, time) {
@@ -299,18 +320,24 @@ fn write_checkpoint(
     table: &ReplyTable,
 ) -> Result<(), NoMemory>
     ensures written { OnOk result (writer.new ≡ appended forms.checkpoint.written (record { mark = mark; time = time; state = state.now; retained = unexpired time.0 table.now.entries }) writer.old) }
+    ensures tick { OnOk result (forms.tick.Valid time) }
+    ensures state { OnOk result (octets.Valid state.now) }
+    ensures count { OnOk result (length (unexpired time.0 table.now.entries) < 2 ^ 32) }
+    ensures valid { OnOk result (AllByRecursion IsHeld (unexpired time.0 table.now.entries)) }
 {
     let count = count(table)?;
     let left = count_unexpired(table, count, time);
+    let moment = time.0;
     writer.write_u32(mark)?;
-    writer.write_u64(time.0)?;
+    writer.write_u64(moment)?;
     write_bytes(writer, state.bytes())?;
     writer.write_u32(left)?;
     write_unexpired(writer, table, count, time)?;
     Ok(())
 }
 
-/// The record of a checkpoint at this mark and time, with the entries of a table that have not expired.
+/// The record of a checkpoint at this mark and time, with the entries of a table that have not expired. It
+/// can be read again, where they can stand in a checkpoint at this mark.
 #[tactic(auto, using(crate::proofs::WritingLaws::formed_written), unfolding(crate::specs::Records::checkpoint_record))]
 pub fn checkpoint_record(
     alloc: Global,
@@ -319,7 +346,8 @@ pub fn checkpoint_record(
     state: &Bytes,
     table: &ReplyTable,
 ) -> Result<Bytes, NoMemory>
-    ensures { IfOk result (λ bytes. bytes ≡ checkpoint_record (record { mark = mark; time = time; state = state.now; retained = unexpired time.0 table.now.entries })) }
+    ensures written { IfOk result (λ bytes. bytes ≡ checkpoint_record (record { mark = mark; time = time; state = state.now; retained = unexpired time.0 table.now.entries })) }
+    ensures writable { IfOk result (λ bytes. CanStand mark (unexpired time.0 table.now.entries) → IsWritable (records.Checkpoint (record { mark = mark; time = time; state = state.now; retained = unexpired time.0 table.now.entries }))) }
 {
     let mut writer = begin(alloc, CHECKPOINT, RECORD_ROOM)?;
     write_checkpoint(&mut writer, mark, time, state, table)?;

@@ -10,7 +10,7 @@ use Rattle.ft_base.specs.declared.requests.Outcome.{Outcome}
 use Rattle.ft_base.specs.declared.views.View.{View}
 use Rattle.reply_table.specs.Entries.{unanswered, joined}
 use Rattle.reply_table.specs.declared.entries.Retained.{Retained}
-use Rattle.message_log.specs.Opening.{replied, with_retained}
+use Rattle.message_log.specs.Opening.{with_its_reply, with_retained}
 use Rattle.log_records.specs.Records.{are_rising}
 use Rattle.message_log.proofs.PictureLaws.{below_joined, below_answered}
 
@@ -75,7 +75,7 @@ rises from end e entries h =
     record { low = leb-true from e.position two.0; high = ltb-true e.position end two.1; others = parts.1 }
 
 below_replied : (n : ℕ) (table : List Retained) (position : ℕ) (reply : Option Outcome) → AllByRecursion (λ (d : Retained). d.position < n) table
-    → AllByRecursion (λ (d : Retained). d.position < n) (replied table position reply)
+    → AllByRecursion (λ (d : Retained). d.position < n) (with_its_reply table position reply)
 below_replied n table position None h = h
 below_replied n table position (Some outcome) h = below_answered n position outcome table h
 

@@ -4,65 +4,53 @@ use Rattle.std.specs.Prelude.{◌&&◌, drop, slice_get, nat_le, nat_lt}
 use Rattle.std.specs.List.{filter}
 use Rattle.std.proofs.lemmas.Bool.{lt-ltb}
 use Rattle.std.proofs.lemmas.Bool.Decides.{nat_tests}
-use Rattle.ft_base.specs.Journal.{Entry, held, is_held, is_held_by, CanJoin}
+use Rattle.ft_base.specs.Admissions.{says_same, against_entry, against_held, by_key}
+use Rattle.ft_base.specs.declared.admissions.Admission.TheVariants.{Expired, Same, Other, New}
+use Rattle.ft_base.specs.Journal.{Entry, held, is_held, is_held_by, CanJoin, is_call, is_unexpired}
 use Rattle.ft_base.specs.Laws.{JournalGoesOn}
 use Rattle.ft_base.specs.declared.numbers.Tick.{Tick}
 use Rattle.ft_base.specs.declared.numbers.Version.{Version}
 use Rattle.ft_base.specs.declared.requests.Key.{Key}
 use Rattle.ft_base.specs.declared.requests.Outcome.{Outcome}
 use Rattle.ft_base.specs.declared.requests.Request.{Request}
-use Rattle.reply_table.specs.Entries.{says_same, found, unanswered, is_call, joined, is_unexpired, unexpired, answered, with_reply}
-use Rattle.reply_table.specs.declared.entries.Found.{Found}
-use Rattle.reply_table.specs.declared.entries.Found.TheVariants as founds
+use Rattle.reply_table.specs.Entries.{found, unanswered, joined, unexpired, replied, answered, with_reply}
 use Rattle.reply_table.specs.declared.entries.Retained.{Retained}
 use Rattle.message_log.specs.Picture.{Picture, length_of}
-use Rattle.message_log.specs.Admission.{by_found, by_key, unless_deposed, against_entry, against_place, found_in, admitted}
+use Rattle.message_log.specs.Admission.{by_table, admitted}
 use Rattle.message_log.specs.Calls.{with_entry, with_outcome, checkpointed}
 use Rattle.message_log.specs.Standing.{IsRetained, Retains, StandsFor}
-use Rattle.message_log.specs.declared.answers.Admit.{Admit}
-use Rattle.message_log.specs.declared.answers.Admit.TheVariants.{Deposed, Expired, New}
-use Rattle.message_log.proofs.Places.{last_passes, passes_nowhere, from_filter, to_filter, of_push, push_keeps, push_last, drop_push, drop_all, map_get, get_map}
-use Rattle.message_log.proofs.StandingLaws.{entry_of, found_agrees, length_stands, upper}
+use Rattle.message_log.specs.declared.answers.Admit.TheVariants as admits
+use Rattle.message_log.proofs.Places.{passes_nowhere, from_filter, to_filter, of_push, push_keeps, push_last, drop_push, drop_all, map_get, get_map}
+use Rattle.message_log.proofs.PictureLaws.{not_deposed}
+use Rattle.message_log.proofs.StandingLaws.{entry_of, log_says, length_stands, upper}
 
 -- ---- what a new request is
 
-abbrev IsNew : Option Key → ℕ → Found → Type 0
-IsNew None now what = Unit {0}
-IsNew (Some key) now what = (now < key.expiration.0) × (what ≡ founds.Fresh)
+-- its expiration is still to come, and no entry holds its retention id
+abbrev IsFree : List Entry → ℕ → Option Key → Type 0
+IsFree journal now None = Unit {0}
+IsFree journal now (Some key) = (now < key.expiration.0) × (held journal key now ≡ None)
 
-fresh_of : (what : Found) (count : ℕ) → by_found what count ≡ New → what ≡ founds.Fresh
-fresh_of founds.Fresh count h = refl
-fresh_of (founds.Same i) count h = absurd cc
-fresh_of (founds.Other i) count h = absurd cc
-
-new_by_key : (key : Option Key) (now : ℕ) (what : Found) (count : ℕ) → by_key key now what count ≡ New → IsNew key now what
-new_by_key None now what count h = tt
-new_by_key (Some key) now what count h = go (nat_le key.expiration.0 now) refl h
+not_entry : (i : ℕ) (request : Request) (key : Key) (o : Option Entry) → against_entry i request key o ≡ New → ⊥
+not_entry i request key None h = cc
+not_entry i request key (Some e) h = go (says_same request key e.request) h
   where
-    go : (b : Bool) → nat_le key.expiration.0 now ≡ b → cond b (Expired (record { 0 = now })) (by_found what count) ≡ New → (now < key.expiration.0) × (what ≡ founds.Fresh)
+    go : (b : Bool) → cond b (Same i) (Other i) ≡ New → ⊥
+    go true k = cc
+    go false k = cc
+
+held_none : (journal : List Entry) (request : Request) (key : Key) (o : Option ℕ) → against_held journal request key o ≡ New → o ≡ None
+held_none journal request key None h = refl
+held_none journal request key (Some i) h = absurd (not_entry i request key (slice_get journal i) h)
+
+new_is_free : (journal : List Entry) (now : ℕ) (request : Request) (key : Option Key) → by_key journal now request key ≡ New → IsFree journal now key
+new_is_free journal now request None h = tt
+new_is_free journal now request (Some key) h = go (nat_le key.expiration.0 now) refl h
+  where
+    go : (b : Bool) → nat_le key.expiration.0 now ≡ b → cond b (Expired key.expiration) (against_held journal request key (held journal key now)) ≡ New
+        → (now < key.expiration.0) × (held journal key now ≡ None)
     go true t k = absurd cc
-    go false t k = (grind (arith, nat_tests, t), fresh_of what count k)
-
-not_deposed : (newest version : ℕ) (rest : Admit) → unless_deposed newest version rest ≡ New → rest ≡ New
-not_deposed newest version rest h = go (nat_lt version newest) h
-  where
-    go : (b : Bool) → cond b (Deposed (record { 0 = newest })) rest ≡ New → rest ≡ New
-    go true k = absurd cc
-    go false k = k
-
-free_of_fresh : (journal : List Entry) (request : Request) (key : Key) (now : ℕ) → against_place journal request key (held journal key now) ≡ founds.Fresh
-    → held journal key now ≡ None
-free_of_fresh journal request key now h = go (held journal key now) refl h
-  where
-    two : (b : Bool) (i : ℕ) → cond b (founds.Same i) (founds.Other i) ≡ founds.Fresh → ⊥
-    two true i h = cc
-    two false i h = cc
-
-    go : (o : Option ℕ) → held journal key now ≡ o → against_place journal request key o ≡ founds.Fresh → held journal key now ≡ None
-    go None a k = a
-    go (Some i) a k =
-        let p = last_passes (is_held now key) journal i a in
-        absurd (two (says_same request key p.value.request) i (ap (λ (o : Option Entry). against_entry request key i o) (sym p.at) ∙ k))
+    go false t k = (grind (arith, nat_tests, t), held_none journal request key (held journal key now) k)
 
 -- an unexpired entry that isn't held is of another call
 other_call : (now : ℕ) (key k : Key) (o : Option Key) → o ≡ Some k → now < k.expiration.0 → is_held_by now key o ≡ false → is_call key o ≡ false
@@ -149,7 +137,7 @@ module _ (journal : List Entry) (time now : ℕ) (table : List Retained) (retain
 answered_same : (position : ℕ) (outcome : Outcome) (r : Retained) → ((answered position outcome r).position ≡ r.position) × (entry_of (answered position outcome r) ≡ entry_of r)
 answered_same position outcome r = go (eqb r.position position)
   where
-    go : (b : Bool) → ((cond b (record r { reply = Some outcome }) r).position ≡ r.position) × (entry_of (cond b (record r { reply = Some outcome }) r) ≡ entry_of r)
+    go : (b : Bool) → ((cond b (replied outcome r) r).position ≡ r.position) × (entry_of (cond b (replied outcome r) r) ≡ entry_of r)
     go true = (refl, refl)
     go false = (refl, refl)
 
@@ -172,48 +160,43 @@ retains_answered journal time table position outcome retains = record {
 
 -- ---- the log
 
-can_join : (journal : List Entry) (now : ℕ) (request : Request) (table : List Retained) (key : Option Key) → request.key ≡ key → IsNew key now (found table request key now)
-    → found table request key now ≡ found_in journal request key now → CanJoin journal (record { at = now; request = request })
-can_join journal now request table None is new agrees = record {
+can_join : (journal : List Entry) (now : ℕ) (request : Request) (key : Option Key) → request.key ≡ key → IsFree journal now key → CanJoin journal (record { at = now; request = request })
+can_join journal now request None is free = record {
   in_time = λ k there. absurd (none_some (sym is ∙ there));
   free = λ k there. absurd (none_some (sym is ∙ there));
 }
   where
     none_some : {k : Key} → None ≡ Some k → ⊥
     none_some h = cc
-can_join journal now request table (Some key) is new agrees =
-    let free = free_of_fresh journal request key now (sym agrees ∙ new.1) in
-    record {
-      in_time = λ k there. subst (λ (x : Key). now < x.expiration.0) (some_some (sym is ∙ there)) new.0;
-      free = λ k there. subst (λ (x : Key). held journal x now ≡ None) (some_some (sym is ∙ there)) free;
-    }
+can_join journal now request (Some key) is free = record {
+  in_time = λ k there. subst (λ (x : Key). now < x.expiration.0) (some_some (sym is ∙ there)) free.0;
+  free = λ k there. subst (λ (x : Key). held journal x now ≡ None) (some_some (sym is ∙ there)) free.1;
+}
   where
     some_some : {k l : Key} → Some k ≡ Some l → k ≡ l
     some_some h = cc
 
 retains_with : (journal : List Entry) (time now : ℕ) (request : Request) (table : List Retained) (version : Version) (position : ℕ) (key : Option Key)
-    → Retains journal time table → time ≤ now → position ≡ length journal → request.key ≡ key → IsNew key now (found table request key now)
-    → found table request key now ≡ found_in journal request key now
+    → Retains journal time table → time ≤ now → position ≡ length journal → request.key ≡ key → IsFree journal now key
     → Retains (journal ++ record { at = now; request = request } ∷ []) now (joined table (unanswered position version (record { 0 = now }) request) key)
-retains_with journal time now request table version position None retains le place is new agrees = retains_unkeyed journal time now table retains le request is
-retains_with journal time now request table version position (Some key) retains le place is new agrees =
-    retains_joined journal time now table retains le request key version position is place (free_of_fresh journal request key now (sym agrees ∙ new.1))
+retains_with journal time now request table version position None retains le place is free = retains_unkeyed journal time now table retains le request is
+retains_with journal time now request table version position (Some key) retains le place is free =
+    retains_joined journal time now table retains le request key version position is place free.1
 
 pub stands_with_entry : JournalGoesOn → (journal : List Entry) (log : Picture) → StandsFor journal log → (version : Version) (clock : Tick) (request : Request)
-    → admitted log version.0 clock.0 request ≡ New
+    → admitted log version.0 clock.0 request ≡ admits.Admission New
     → StandsFor (journal ++ record { at = max clock.0 log.time; request = request } ∷ []) (with_entry log version clock request)
 stands_with_entry goes journal log s version clock request h =
     let now = max clock.0 log.time in
     let le : log.time ≤ now = upper clock.0 log.time in
-    let what = found log.table request request.key now in
-    let new = new_by_key request.key now what (length_of log) (not_deposed log.newest.version.0 version.0 (by_key request.key now what (length_of log)) h) in
-    let agrees = found_agrees journal log.time now log.table request request.key s.is_journal s.table le in
+    let says = not_deposed log.newest.version.0 version.0 (by_table request.key now (length_of log) (found log.table request request.key now)) New h in
+    let free = new_is_free journal now request request.key (sym (log_says journal log s clock.0 request) ∙ says) in
     let entry : Entry = record { at = now; request = request } in
     record {
-      is_journal = goes log.time journal entry s.is_journal le (can_join journal now request log.table request.key refl new agrees);
+      is_journal = goes log.time journal entry s.is_journal le (can_join journal now request request.key refl free);
       marked = omega (arith, s.marked, length-append journal (entry ∷ []));
       entries = ap (λ (es : List Entry). es ++ entry ∷ []) s.entries ∙ sym (drop_push log.mark journal entry s.marked);
-      table = retains_with journal log.time now request log.table version (length_of log) request.key s.table le (length_stands journal log s) refl new agrees;
+      table = retains_with journal log.time now request log.table version (length_of log) request.key s.table le (length_stands journal log s) refl free;
     }
 
 pub stands_cut : (journal : List Entry) (log : Picture) → StandsFor journal log → (clock : Tick) (state : List ℕ) → StandsFor journal (checkpointed log clock state)
@@ -233,5 +216,9 @@ stands_answered journal log s position outcome = record {
   is_journal = s.is_journal;
   marked = s.marked;
   entries = s.entries;
-  table = retains_answered journal log.time log.table position outcome s.table;
+  table = go (nat_lt position log.mark);
 }
+  where
+    go : (b : Bool) → Retains journal log.time (cond b log.table (with_reply log.table position outcome))
+    go true = s.table
+    go false = retains_answered journal log.time log.table position outcome s.table

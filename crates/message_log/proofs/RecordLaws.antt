@@ -21,7 +21,7 @@ use Rattle.log_records.specs.declared.records.Accepted.{Accepted}
 use Rattle.log_records.specs.declared.records.Checkpoint.{Checkpoint}
 use Rattle.log_records.specs.declared.records.Record.{Record}
 use Rattle.log_records.specs.declared.records.Record.TheVariants as records
-use Rattle.message_log.specs.WrittenLaws.{RecordsAreRead}
+use Rattle.message_log.specs.Written.{RecordsAreRead}
 
 abbrev with_reader : {X : Type 0} → X → Reader → X × Reader
 with_reader x r = (x, r)

@@ -1,19 +1,22 @@
 -- A log that stands for a journal says what the whole journal says, and its calls keep it standing.
 use Rattle.std.proofs.Common.{◌≡◌, ℕ, ◌+◌, ◌<◌, ◌≤◌, Bool, true, false, cond, true≢false, ltb, max, List, length, Option, Some, None, refl, sym, ap, ◌∙◌, arith, length-drop}
-use Rattle.std.specs.Prelude.{◌&&◌, ◌-◌, drop, slice_get, nat_lt, option_map}
+use Rattle.std.specs.Prelude.{◌&&◌, ◌-◌, drop, slice_get, nat_le, nat_lt, option_map}
 use Rattle.std.specs.Ordering.{int_eq}
 use Rattle.std.specs.Str.{bytes_eq}
 use Rattle.std.proofs.lemmas.Bool.{ltb-true, ltb-false}
 use Rattle.std.proofs.lemmas.Bool.Decides.{Decides-int_eq}
 use Rattle.std.proofs.lemmas.Slice.Eq.{bytes_eq-Decides}
+use Rattle.ft_base.specs.Admissions.{says_same, by_room, against_entry, against_held, by_key, admission}
+use Rattle.ft_base.specs.declared.admissions.Admission.{Admission}
+use Rattle.ft_base.specs.declared.admissions.Admission.TheVariants.{Expired, Same, Other}
 use Rattle.ft_base.specs.Journal.{Entry, held, is_held, is_held_by, IsJournal, IsOneCall}
 use Rattle.ft_base.specs.declared.requests.Key.{Key}
 use Rattle.ft_base.specs.declared.requests.Request.{Request}
-use Rattle.reply_table.specs.Entries.{says_same, holder, against, found}
+use Rattle.reply_table.specs.Entries.{holder, against, found}
 use Rattle.reply_table.specs.declared.entries.Found.TheVariants as founds
 use Rattle.reply_table.specs.declared.entries.Retained.{Retained}
 use Rattle.message_log.specs.Picture.{Picture, length_of, request_at}
-use Rattle.message_log.specs.Admission.{by_key, unless_deposed, against_entry, against_place, found_in, admission, admitted}
+use Rattle.message_log.specs.Admission.{by_found, by_table, unless_deposed, admitted_by, admitted}
 use Rattle.message_log.specs.Standing.{Retains, StandsFor}
 use Rattle.message_log.proofs.Places.{Passes, last_passes, passes_nowhere, found_passes, found_nowhere, drop_get}
 
@@ -85,11 +88,15 @@ module _ (journal : List Entry) (time now : ℕ) (table : List Retained) (reques
       let entry : entry_of there.entry ≡ p.value = cc in
       (there.index, there.entry, there.at, there.is, ap (λ (e : Entry). is_held_by now key e.request.key) entry ∙ p.true-there)
 
-  pub found_as : against_place journal request key (held journal key now) ≡ against request key (holder table key now)
-  found_as = go (held journal key now) refl (holder table key now) refl
+  found_says : (count k : ℕ) (b : Bool) → by_found count (cond b (founds.Same k) (founds.Other k)) ≡ cond b (Same k) (Other k)
+  found_says count k true = refl
+  found_says count k false = refl
+
+  pub held_says : (count : ℕ) → count ≡ length journal → by_found count (against request key (holder table key now)) ≡ against_held journal request key (held journal key now)
+  held_says count long = go (held journal key now) refl (holder table key now) refl
     where
-      go : (o : Option ℕ) → held journal key now ≡ o → (r : Option Retained) → holder table key now ≡ r → against_place journal request key o ≡ against request key r
-      go None a None b = refl
+      go : (o : Option ℕ) → held journal key now ≡ o → (r : Option Retained) → holder table key now ≡ r → by_found count (against request key r) ≡ against_held journal request key o
+      go None a None b = ap by_room long
       go None a (Some r) b =
           let p = found_passes (λ (e : Retained). is_held_by now key e.request.key) table r b in
           absurd (true≢false (sym p.2 ∙ passes_nowhere (is_held now key) journal r.position (entry_of r) a (retains.are p.0 r p.1)))
@@ -104,13 +111,15 @@ module _ (journal : List Entry) (time now : ℕ) (table : List Retained) (reques
           one_holder journal time now key r.position i (entry_of r) q.value is le own q.at (holds now key r.request.key p.2) (holds now key q.value.request.key q.true-there)
           in
           let there : slice_get journal i ≡ Some (entry_of r) = ap (λ (k : ℕ). slice_get journal k) (sym same) ∙ own in
-          ap (λ (o : Option Entry). against_entry request key i o) there
-          ∙ ap (λ (k : ℕ). cond (says_same request key r.request) (founds.Same k) (founds.Other k)) (sym same)
+          found_says count r.position (says_same request key r.request)
+          ∙ ap (λ (k : ℕ). cond (says_same request key r.request) (Same k) (Other k)) same
+          ∙ sym (ap (λ (o : Option Entry). against_entry i request key o) there)
 
-pub found_agrees : (journal : List Entry) (time now : ℕ) (table : List Retained) (request : Request) (key : Option Key) → IsJournal time journal → Retains journal time table → time ≤ now
-    → found table request key now ≡ found_in journal request key now
-found_agrees journal time now table request None is retains le = refl
-found_agrees journal time now table request (Some key) is retains le = sym (found_as journal time now table request key is retains le)
+pub table_says : (journal : List Entry) (time now : ℕ) (table : List Retained) (request : Request) (key : Option Key) (count : ℕ) → IsJournal time journal → Retains journal time table → time ≤ now
+    → count ≡ length journal → by_table key now count (found table request key now) ≡ by_key journal now request key
+table_says journal time now table request None count is retains le long = ap by_room long
+table_says journal time now table request (Some key) count is retains le long =
+    ap (λ (a : Admission). cond (nat_le key.expiration.0 now) (Expired key.expiration) a) (held_says journal time now table request key is retains le count long)
 
 length_drop : (n : ℕ) (xs : List Entry) → n ≤ length xs → n + length (drop n xs) ≡ length xs
 length_drop n xs le = grind (arith, length-drop, le)
@@ -121,12 +130,14 @@ length_stands journal log s = ap (λ (es : List Entry). log.mark + length es) s.
 pub upper : (a b : ℕ) → b ≤ max a b
 upper a b = omega arith
 
+pub log_says : (journal : List Entry) (log : Picture) → StandsFor journal log → (clock : ℕ) (request : Request)
+    → by_table request.key (max clock log.time) (length_of log) (found log.table request request.key (max clock log.time)) ≡ admission journal (max clock log.time) request
+log_says journal log s clock request =
+    table_says journal log.time (max clock log.time) log.table request request.key (length_of log) s.is_journal s.table (upper clock log.time) (length_stands journal log s)
+
 pub admits_as_journal : (journal : List Entry) (log : Picture) → StandsFor journal log → (version clock : ℕ) (request : Request)
-    → admitted log version clock request ≡ admission log.newest.version.0 journal log.time version clock request
-admits_as_journal journal log s version clock request =
-    let now = max clock log.time in
-    let what = found_agrees journal log.time now log.table request request.key s.is_journal s.table (upper clock log.time) in
-    (λ i. unless_deposed log.newest.version.0 version (by_key request.key now (what i) (length_stands journal log s i)))
+    → admitted log version clock request ≡ admitted_by log.newest.version.0 journal log.time version clock request
+admits_as_journal journal log s version clock request = ap (unless_deposed log.newest.version.0 version) (log_says journal log s clock request)
 
 pub lends_journal : (journal : List Entry) (log : Picture) → StandsFor journal log → (position : ℕ) → log.mark ≤ position
     → request_at log position ≡ option_map (λ (e : Entry). e.request) (slice_get journal position)

@@ -1,15 +1,17 @@
 -- Tables: entries that are filed again give the table back, and a table stays told by the records.
-use Rattle.std.proofs.Common.{◌≡◌, ◌⊎◌, inl, inr, ⊎_elim, ℕ, ◌+◌, ◌<◌, Bool, true, false, true≢false, cond, not, eqb, List, [], ◌∷◌, ◌++◌, Option, Some, None, refl, sym, ap, subst, ◌∙◌, append_assoc, arith}
-use Rattle.std.specs.Prelude.{is_some}
+use Rattle.std.proofs.Common.{◌≡◌, ℕ, ◌+◌, ◌<◌, ◌≤◌, Bool, true, false, true≢false, cond, not, eqb, List, [], ◌∷◌, ◌++◌, Option, Some, None, refl, sym, ap, subst, ◌∙◌, append_assoc, arith}
+use Rattle.std.specs.Prelude.{is_some, unwrap_or, nat_le, nat_lt}
 use Rattle.std.specs.List.{AllByRecursion, filter}
-use Rattle.std.specs.Option.{option_and_then}
 use Rattle.std.proofs.lemmas.Bool.{eq-eqb, eqb-true, ne_eqb}
+use Rattle.std.proofs.lemmas.Bool.Decides.{nat_tests}
 use Rattle.ft_base.specs.declared.requests.Key.{Key}
 use Rattle.ft_base.specs.declared.requests.Outcome.{Outcome}
-use Rattle.reply_table.specs.Entries.{unanswered, is_call, without, joined, answered, with_reply, reply_of, entry_at}
+use Rattle.ft_base.specs.Journal.{is_call}
+use Rattle.reply_table.specs.Entries.{unanswered, without, joined, replied, answered, with_reply}
 use Rattle.reply_table.specs.declared.entries.Retained.{Retained}
-use Rattle.message_log.specs.Opening.{replied, with_retained, filed}
-use Rattle.message_log.specs.Written.{IsOtherCall, IsBehind, AreRetained, IsRecorded, AreRecorded}
+use Rattle.log_records.specs.Records.{are_rising, IsVersion, AreOfVersions}
+use Rattle.message_log.specs.Opening.{with_its_reply, with_retained, filed}
+use Rattle.message_log.specs.Retaining.{IsOtherCall, IsBehind, AreRetained, recorded_one, recorded}
 
 -- ---- elements of lists
 
@@ -26,13 +28,28 @@ module _ {X : Type 0} where
   all_push P [] x h p = (p, tt)
   all_push P (y ∷ xs) x h p = (h.0, all_push P xs x h.1 p)
 
-  all_map : (P Q : X → Type 0) (f : (x : X) → P x → Q x) (xs : List X) → AllByRecursion P xs → AllByRecursion Q xs
+  pub all_map : (P Q : X → Type 0) (f : (x : X) → P x → Q x) (xs : List X) → AllByRecursion P xs → AllByRecursion Q xs
   all_map P Q f [] h = tt
   all_map P Q f (x ∷ xs) h = (f x h.0, all_map P Q f xs h.1)
 
   all_of : (P : X → Type 0) (f : (x : X) → P x) (xs : List X) → AllByRecursion P xs
   all_of P f [] = tt
   all_of P f (x ∷ xs) = (f x, all_of P f xs)
+
+-- ---- facts of each retained entry
+
+pub all_joined : (P : Retained → Type 0) (table : List Retained) (e : Retained) (key : Option Key) → AllByRecursion P table → P e → AllByRecursion P (joined table e key)
+all_joined P table e None h p = h
+all_joined P table e (Some key) h p = all_push P (without key table) e (all_filter P (λ d. not (is_call key d.request.key)) table h) p
+
+pub all_answered : (P : Retained → Type 0) (position : ℕ) (outcome : Outcome) → ((r : Retained) → P r → P (replied outcome r)) → (table : List Retained) → AllByRecursion P table
+    → AllByRecursion P (with_reply table position outcome)
+all_answered P position outcome f [] h = tt
+all_answered P position outcome f (r ∷ table) h = (go (eqb r.position position), all_answered P position outcome f table h.1)
+  where
+    go : (b : Bool) → P (cond b (replied outcome r) r)
+    go true = f r h.0
+    go false = h.0
 
 -- ---- two tables whose requests are the same
 
@@ -82,9 +99,9 @@ retained_push end (r ∷ table) e h keyed is other = (
   retained_push end table e h.3 keyed is other.1,
 )
 
-retained_further : (end : ℕ) (table : List Retained) → AreRetained end table → AreRetained (end + 1) table
-retained_further end [] h = tt
-retained_further end (r ∷ table) h = (h.0, omega (arith, h.1), h.2, retained_further end table h.3)
+pub retained_further : (end later : ℕ) (table : List Retained) → end ≤ later → AreRetained end table → AreRetained later table
+retained_further end later [] le h = tt
+retained_further end later (r ∷ table) le h = (h.0, omega (arith, h.1, le), h.2, retained_further end later table le h.3)
 
 not_true : (b : Bool) → not b ≡ true → b ≡ false
 not_true true h = absurd (true≢false (sym h))
@@ -101,7 +118,7 @@ others_left key (r ∷ table) = go (others_left key table) (not (is_call key r.r
 
 retained_keyed : (end : ℕ) (table : List Retained) (e : Retained) (o : Option Key) → e.request.key ≡ o → AreRetained end table → e.position ≡ end
     → AreRetained (end + 1) (joined table e o)
-retained_keyed end table e None k h is = retained_further end table h
+retained_keyed end table e None k h is = retained_further end (end + 1) table (omega arith) h
 retained_keyed end table e (Some key) k h is =
     retained_push end (without key table) e (retained_filter end (λ r. not (is_call key r.request.key)) table h) (ap is_some k) is
     (subst (λ (o : Option Key). AllByRecursion (λ r. IsOtherCall o r.request.key) (without key table)) (sym k) (others_left key table))
@@ -112,7 +129,7 @@ retained_joined end table e h is = retained_keyed end table e e.request.key refl
 answered_alike : (position : ℕ) (outcome : Outcome) (r : Retained) → ((answered position outcome r).position ≡ r.position) × ((answered position outcome r).request.key ≡ r.request.key)
 answered_alike position outcome r = go (eqb r.position position)
   where
-    go : (b : Bool) → ((cond b (record r { reply = Some outcome }) r).position ≡ r.position) × ((cond b (record r { reply = Some outcome }) r).request.key ≡ r.request.key)
+    go : (b : Bool) → ((cond b (replied outcome r) r).position ≡ r.position) × ((cond b (replied outcome r) r).request.key ≡ r.request.key)
     go true = (refl, refl)
     go false = (refl, refl)
 
@@ -139,25 +156,27 @@ joins_last : (table : List Retained) (e : Retained) (o : Option Key) → is_some
 joins_last table e None keyed h = absurd (true≢false (sym keyed))
 joins_last table e (Some key) keyed h = ap (λ (l : List Retained). l ++ e ∷ []) (nothing_dropped key table h)
 
-answered_last : (table : List Retained) (e : Retained) (position : ℕ) (outcome : Outcome) → AllByRecursion (λ (r : Retained). r.position < position) table → e.position ≡ position
+answered_last : (table : List Retained) (e : Retained) (position : ℕ) (outcome : Outcome) → AllByRecursion (λ (r : Retained). r.position < position) table → e.position ≡ position → e.reply ≡ None
     → with_reply (table ++ e ∷ []) position outcome ≡ table ++ record e { reply = Some outcome } ∷ []
-answered_last [] e position outcome h is = ap (λ (b : Bool). cond b (record e { reply = Some outcome }) e ∷ []) (eq-eqb e.position position is)
-answered_last (r ∷ table) e position outcome h is =
-    ap (λ (b : Bool). cond b (record r { reply = Some outcome }) r ∷ with_reply (table ++ e ∷ []) position outcome) (ne_eqb r.position position (λ same. omega (arith, same, h.0)))
-    ∙ ap (λ (l : List Retained). r ∷ l) (answered_last table e position outcome h.1 is)
+answered_last [] e position outcome h is none =
+    ap (λ (b : Bool). cond b (replied outcome e) e ∷ []) (eq-eqb e.position position is)
+    ∙ ap (λ (o : Option Outcome). record e { reply = Some (unwrap_or o outcome) } ∷ []) none
+answered_last (r ∷ table) e position outcome h is none =
+    ap (λ (b : Bool). cond b (replied outcome r) r ∷ with_reply (table ++ e ∷ []) position outcome) (ne_eqb r.position position (λ same. omega (arith, same, h.0)))
+    ∙ ap (λ (l : List Retained). r ∷ l) (answered_last table e position outcome h.1 is none)
 
 replied_last : (table : List Retained) (r : Retained) (reply : Option Outcome) → r.reply ≡ reply → AllByRecursion (λ (d : Retained). d.position < r.position) table
-    → replied (table ++ unanswered r.position r.version r.at r.request ∷ []) r.position reply ≡ table ++ r ∷ []
+    → with_its_reply (table ++ unanswered r.position r.version r.at r.request ∷ []) r.position reply ≡ table ++ r ∷ []
 replied_last table r None is h = ap (λ (e : Retained). table ++ e ∷ []) (itself r None is)
 replied_last table r (Some outcome) is h =
-    answered_last table (unanswered r.position r.version r.at r.request) r.position outcome h refl ∙ ap (λ (e : Retained). table ++ e ∷ []) (itself r (Some outcome) is)
+    answered_last table (unanswered r.position r.version r.at r.request) r.position outcome h refl refl ∙ ap (λ (e : Retained). table ++ e ∷ []) (itself r (Some outcome) is)
 
 added : (table : List Retained) (r : Retained) → is_some r.request.key ≡ true → AllByRecursion (λ d. IsBehind r d) table → with_retained table r ≡ table ++ r ∷ []
 added table r keyed h =
     let row = unanswered r.position r.version r.at r.request in
     let others = all_map (λ d. IsBehind r d) (λ d. IsOtherCall r.request.key d.request.key) (λ d b. b.other) table h in
     let before = all_map (λ d. IsBehind r d) (λ d. d.position < r.position) (λ d b. b.position) table h in
-    ap (λ (l : List Retained). replied l r.position r.reply) (joins_last table row r.request.key keyed others) ∙ replied_last table r r.reply refl before
+    ap (λ (l : List Retained). with_its_reply l r.position r.reply) (joins_last table row r.request.key keyed others) ∙ replied_last table r r.reply refl before
 
 -- each of some is behind all of a table
 abbrev AllBehind : List Retained → List Retained → Type 0
@@ -182,111 +201,89 @@ filed_behind end table (r ∷ rows) h g =
 pub filed_again : (end : ℕ) (rows : List Retained) → AreRetained end rows → filed [] rows ≡ rows
 filed_again end rows h = filed_behind end [] rows (all_of (λ r. AllByRecursion (λ d. IsBehind r d) []) (λ r. tt) rows) h
 
+-- ---- an entry that is filed, behind all others
+
+pub retained_filed : (from : ℕ) (table : List Retained) (e : Retained) → from ≤ e.position → AreRetained from table → AreRetained (e.position + 1) (with_retained table e)
+retained_filed from table e le h =
+    let row = unanswered e.position e.version e.at e.request in
+    go e.reply (retained_joined e.position table row (retained_further from e.position table le h) refl)
+  where
+    go : (reply : Option Outcome) → AreRetained (e.position + 1) (joined table (unanswered e.position e.version e.at e.request) e.request.key)
+        → AreRetained (e.position + 1) (with_its_reply (joined table (unanswered e.position e.version e.at e.request) e.request.key) e.position reply)
+    go None h = h
+    go (Some outcome) h = retained_answered (e.position + 1) e.position outcome _ h
+
+pub versions_filed : (table : List Retained) (e : Retained) → AreOfVersions table → IsVersion e.version → AreOfVersions (with_retained table e)
+versions_filed table e h its =
+    go e.reply (all_joined (λ (d : Retained). IsVersion d.version) table (unanswered e.position e.version e.at e.request) e.request.key h its)
+  where
+    go : (reply : Option Outcome) → AreOfVersions (joined table (unanswered e.position e.version e.at e.request) e.request.key)
+        → AreOfVersions (with_its_reply (joined table (unanswered e.position e.version e.at e.request) e.request.key) e.position reply)
+    go None h = h
+    go (Some outcome) h = all_answered (λ (d : Retained). IsVersion d.version) e.position outcome (λ d p. p) _ h
+
+-- ---- positions rise
+
+pub rising : (from end : ℕ) (table : List Retained) → AreRetained end table → AllByRecursion (λ r. from ≤ r.position) table → are_rising from end table ≡ true
+rising from end [] h low = refl
+rising from end (r ∷ table) h low =
+    let first : nat_le from r.position ≡ true = let le = low.0 in grind (arith, nat_tests) in
+    let second : nat_lt r.position end ≡ true = let lt = h.1 in grind (arith, nat_tests) in
+    let rest = rising (r.position + 1) end table h.3 (all_map (λ later. IsBehind later r) (λ later. r.position + 1 ≤ later.position) (λ later b. omega (arith, b.position)) table h.2) in
+    rw (first, second) rest
+
+pub rising_from_0 : (end : ℕ) (table : List Retained) → AreRetained end table → are_rising 0 end table ≡ true
+rising_from_0 end table h = rising 0 end table h (all_of (λ r. 0 ≤ r.position) (λ r. omega arith) table)
+
 -- ---- what the records tell of a table
 
-key_told : (mark : ℕ) (told kept : Retained) → IsRecorded mark told kept → told.request.key ≡ kept.request.key
-key_told mark told kept h = ap (λ (r : Retained). r.request.key) h.same
+-- one without a reply is told whole
+told_unanswered : (mark : ℕ) (r : Retained) → r.reply ≡ None → recorded_one mark r ≡ r
+told_unanswered mark r none = ap (λ (o : Option Outcome). record r { reply = o }) (go (nat_lt r.position mark) ∙ sym none)
+  where
+    go : (b : Bool) → cond b r.reply None ≡ None
+    go true = none
+    go false = refl
 
-position_told : (mark : ℕ) (told kept : Retained) → IsRecorded mark told kept → told.position ≡ kept.position
-position_told mark told kept h = ap (λ (r : Retained). r.position) h.same
+told_without : (mark : ℕ) (key : Key) (table : List Retained) → without key (recorded mark table) ≡ recorded mark (without key table)
+told_without mark key [] = refl
+told_without mark key (r ∷ table) = go (not (is_call key r.request.key)) (told_without mark key table)
+  where
+    go : (b : Bool) → without key (recorded mark table) ≡ recorded mark (without key table)
+        → cond b (recorded_one mark r ∷ without key (recorded mark table)) (without key (recorded mark table)) ≡ recorded mark (cond b (r ∷ without key table) (without key table))
+    go true rest = ap (λ (l : List Retained). recorded_one mark r ∷ l) rest
+    go false rest = rest
 
-told_alike : (mark : ℕ) (told table : List Retained) → AreRecorded mark told table → AreAlike told table
-told_alike mark [] [] h = tt
-told_alike mark [] (r ∷ table) h = absurd h
-told_alike mark (t ∷ told) [] h = absurd h
-told_alike mark (t ∷ told) (r ∷ table) h = (position_told mark t r h.0, key_told mark t r h.0, told_alike mark told table h.1)
+told_push : (mark : ℕ) (table : List Retained) (e : Retained) → recorded mark (table ++ e ∷ []) ≡ recorded mark table ++ recorded_one mark e ∷ []
+told_push mark [] e = refl
+told_push mark (r ∷ table) e = ap (λ (l : List Retained). recorded_one mark r ∷ l) (told_push mark table e)
 
-pub retained_told : (end mark : ℕ) (told table : List Retained) → AreRecorded mark told table → AreRetained end table → AreRetained end told
-retained_told end mark told table h g = retained_alike end told table (told_alike mark told table h) g
-
--- what was told is told again
-pub told_itself : (mark : ℕ) (told table : List Retained) → AreRecorded mark told table → AreRecorded mark told told
-told_itself mark [] [] h = tt
-told_itself mark [] (r ∷ table) h = absurd h
-told_itself mark (t ∷ told) [] h = absurd h
-told_itself mark (t ∷ told) (r ∷ table) h = (
-  record {
-    same = refl;
-    reply = ⊎_elim (λ none. inl none) (λ old. inr (omega (arith, old.0, position_told mark t r h.0), refl)) h.0.reply;
-  },
-  told_itself mark told table h.1,
-)
+pub recorded_joined : (mark : ℕ) (table : List Retained) (e : Retained) (key : Option Key) → e.reply ≡ None → joined (recorded mark table) e key ≡ recorded mark (joined table e key)
+recorded_joined mark table e None none = refl
+recorded_joined mark table e (Some key) none =
+    ap (λ (l : List Retained). l ++ e ∷ []) (told_without mark key table)
+    ∙ ap (λ (x : Retained). recorded mark (without key table) ++ x ∷ []) (sym (told_unanswered mark e none))
+    ∙ sym (told_push mark (without key table) e)
 
 -- all that stands at a checkpoint is told
-pub told_whole : (end : ℕ) (table : List Retained) → AreRetained end table → AreRecorded end table table
-told_whole end [] h = tt
-told_whole end (r ∷ table) h = (record { same = refl; reply = inr (h.1, refl) }, told_whole end table h.3)
+pub recorded_whole : (end : ℕ) (table : List Retained) → AreRetained end table → table ≡ recorded end table
+recorded_whole end [] h = refl
+recorded_whole end (r ∷ table) h =
+    let below : nat_lt r.position end ≡ true = let lt = h.1 in grind (arith, nat_tests) in
+    (λ i. record r { reply = cond (sym below i) r.reply None } ∷ recorded_whole end table h.3 i)
 
-told_without : (mark : ℕ) (key : Key) (told table : List Retained) → AreRecorded mark told table → AreRecorded mark (without key told) (without key table)
-told_without mark key [] [] h = tt
-told_without mark key [] (r ∷ table) h = absurd h
-told_without mark key (t ∷ told) [] h = absurd h
-told_without mark key (t ∷ told) (r ∷ table) h =
-    go (told_without mark key told table h.1) (not (is_call key t.request.key)) (not (is_call key r.request.key))
-    (ap (λ (o : Option Key). not (is_call key o)) (key_told mark t r h.0))
+-- a reply that is given behind the mark isn't told
+told_answered : (mark position : ℕ) (outcome : Outcome) (r : Retained) → mark ≤ position → recorded_one mark (answered position outcome r) ≡ recorded_one mark r
+told_answered mark position outcome r le = go (eqb r.position position) refl
   where
-    go : AreRecorded mark (without key told) (without key table) → (b c : Bool) → b ≡ c
-        → AreRecorded mark (cond b (t ∷ without key told) (without key told)) (cond c (r ∷ without key table) (without key table))
-    go rest true true e = (h.0, rest)
-    go rest false false e = rest
-    go rest true false e = absurd (true≢false e)
-    go rest false true e = absurd (true≢false (sym e))
+    go : (b : Bool) → eqb r.position position ≡ b → recorded_one mark (cond b (replied outcome r) r) ≡ recorded_one mark r
+    go true t =
+        let same = eqb-true r.position position t in
+        let behind : nat_lt r.position mark ≡ false = grind (arith, nat_tests) in
+        ap (λ (b : Bool). record r { reply = cond b (Some (unwrap_or r.reply outcome)) None }) behind
+        ∙ sym (ap (λ (b : Bool). record r { reply = cond b r.reply None }) behind)
+    go false t = refl
 
-told_push : (mark : ℕ) (told table : List Retained) (t r : Retained) → AreRecorded mark told table → IsRecorded mark t r → AreRecorded mark (told ++ t ∷ []) (table ++ r ∷ [])
-told_push mark [] [] t r h g = (g, tt)
-told_push mark [] (d ∷ table) t r h g = absurd h
-told_push mark (c ∷ told) [] t r h g = absurd h
-told_push mark (c ∷ told) (d ∷ table) t r h g = (h.0, told_push mark told table t r h.1 g)
-
-pub told_joined : (mark : ℕ) (told table : List Retained) (e : Retained) (key : Option Key) → AreRecorded mark told table → e.reply ≡ None
-    → AreRecorded mark (joined told e key) (joined table e key)
-told_joined mark told table e None h none = h
-told_joined mark told table e (Some key) h none =
-    told_push mark (without key told) (without key table) e e (told_without mark key told table h) (record { same = refl; reply = inl none })
-
--- ---- a reply that is given
-
--- it changes no other position
-left_alone : (position : ℕ) (outcome : Outcome) (r : Retained) → (r.position ≡ position → ⊥) → answered position outcome r ≡ r
-left_alone position outcome r other = ap (λ (b : Bool). cond b (record r { reply = Some outcome }) r) (ne_eqb r.position position other)
-
-told_passed : (mark position : ℕ) (outcome : Outcome) (t r : Retained) → (r.position ≡ position → ⊥) → IsRecorded mark t r → IsRecorded mark t (answered position outcome r)
-told_passed mark position outcome t r other h = subst (λ (x : Retained). IsRecorded mark t x) (sym (left_alone position outcome r other)) h
-
-all_passed : (mark position : ℕ) (outcome : Outcome) (told table : List Retained) → AreRecorded mark told table → AllByRecursion (λ (r : Retained). position < r.position) table
-    → AreRecorded mark told (with_reply table position outcome)
-all_passed mark position outcome [] [] h g = tt
-all_passed mark position outcome [] (r ∷ table) h g = absurd h
-all_passed mark position outcome (t ∷ told) [] h g = absurd h
-all_passed mark position outcome (t ∷ told) (r ∷ table) h g =
-    (told_passed mark position outcome t r (λ same. omega (arith, same, g.0)) h.0, all_passed mark position outcome told table h.1 g.1)
-
--- none yet, or this one
-abbrev pub MayBe : Option Outcome → Outcome → Type 0
-MayBe reply outcome = (reply ≡ None) ⊎ (reply ≡ Some outcome)
-
-told_here : (mark : ℕ) (outcome : Outcome) (t r : Retained) → MayBe r.reply outcome → IsRecorded mark t r → IsRecorded mark t (record r { reply = Some outcome })
-told_here mark outcome t r may h = record {
-  same = h.same;
-  reply = ⊎_elim (λ none. inl none)
-      (λ old. ⊎_elim (λ none. inl (old.1 ∙ none)) (λ this. inr (old.0, old.1 ∙ this)) may) h.reply;
-}
-
-pub told_answered : (end mark position : ℕ) (outcome : Outcome) (told table : List Retained) → AreRecorded mark told table → AreRetained end table
-    → MayBe (reply_of table position) outcome → AreRecorded mark told (with_reply table position outcome)
-told_answered end mark position outcome [] [] h g may = tt
-told_answered end mark position outcome [] (r ∷ table) h g may = absurd h
-told_answered end mark position outcome (t ∷ told) [] h g may = absurd h
-told_answered end mark position outcome (t ∷ told) (r ∷ table) h g may =
-    go (told_answered end mark position outcome told table h.1 g.3) (eqb r.position position) refl may
-  where
-    go : (MayBe (reply_of table position) outcome → AreRecorded mark told (with_reply table position outcome)) → (b : Bool) → eqb r.position position ≡ b
-        → MayBe (option_and_then (λ (e : Retained). e.reply) (cond b (Some r) (entry_at table position))) outcome
-        → AreRecorded mark (t ∷ told) (cond b (record r { reply = Some outcome }) r ∷ with_reply table position outcome)
-    go rest true e m = (
-      told_here mark outcome t r m h.0,
-      all_passed mark position outcome told table h.1
-          (all_map (λ (later : Retained). IsBehind later r) (λ (later : Retained). position < later.position)
-          (λ later b. omega (arith, b.position, eqb-true r.position position e)) table g.2),
-    )
-    go rest false e m = (h.0, rest m)
+pub recorded_answered : (mark position : ℕ) (outcome : Outcome) (table : List Retained) → mark ≤ position → recorded mark (with_reply table position outcome) ≡ recorded mark table
+recorded_answered mark position outcome [] le = refl
+recorded_answered mark position outcome (r ∷ table) le = (λ i. told_answered mark position outcome r le i ∷ recorded_answered mark position outcome table le i)

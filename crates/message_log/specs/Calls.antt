@@ -1,6 +1,6 @@
 -- What a log's calls make of it.
-use Rattle.std.specs.Prelude.{◌≡◌, ℕ, ◌<◌, max, Bool, true, false, List, [], ◌∷◌, ◌++◌, Option, Some, None, Result, Ok, Err}
-use Rattle.ft_base.specs.declared.limits.TheConstants.{VIEW_LIMIT}
+use Rattle.std.specs.Prelude.{◌≡◌, ℕ, ◌<◌, ◌≤◌, max, nat_lt, if◌then◌else◌, Bool, true, false, List, [], ◌∷◌, ◌++◌, Option, Some, None, Result, Ok, Err}
+use Rattle.ft_base.specs.declared.limits.TheConstants.{VIEW_LIMIT, JOURNAL_LIMIT}
 use Rattle.ft_base.specs.declared.numbers.Tick.{Tick}
 use Rattle.ft_base.specs.declared.numbers.Version.{Version}
 use Rattle.ft_base.specs.declared.requests.Key.{Key}
@@ -11,9 +11,11 @@ use Rattle.ft_outside.specs.Outside.{next_count}
 use Rattle.ft_outside.specs.Keeping.{plan_after, IsForetold}
 use Rattle.reply_table.specs.Entries.{unanswered, joined, unexpired, with_reply}
 use Rattle.log_records.specs.Records.{entry_record, view_record, checkpoint_record}
+use Rattle.log_records.specs.Writable.{IsWritable}
+use Rattle.log_records.specs.declared.records.Record.TheVariants as records
 use Rattle.log_records.specs.declared.records.Accepted.{Accepted}
 use Rattle.log_records.specs.declared.records.Checkpoint.{Checkpoint}
-use Rattle.message_log.specs.Picture.{Picture, Reserved, HasRoom, length_of}
+use Rattle.message_log.specs.Picture.{Picture, KeeperPicture, Reserved, HasRoom, keeper_of, length_of}
 use Rattle.message_log.specs.declared.answers.Appended.{Appended}
 use Rattle.message_log.specs.declared.answers.Appended.TheVariants.{At, Failed}
 use Rattle.message_log.specs.declared.answers.LogFault.{LogFault}
@@ -57,20 +59,26 @@ fresh first plan faults = record {
 }
 
 -- the first view is written, or the keeper is as it was but for its plan and its count of faults
-abbrev pub IsStarted : View → List (List ℕ) → List (List ℕ) → Option (List Bool) → Option (List Bool) → ℕ → ℕ → Result (Unit {0}) LogFault → Type 0
-IsStarted v before records plan plan_now faults now (Ok done) =
-    IsForetold plan false × (records ≡ before ++ view_record v ∷ []) × (plan_now ≡ plan_after plan) × (now ≡ faults)
-IsStarted v before records plan plan_now faults now (Err log_faults.Failed) =
-    IsForetold plan true × (records ≡ before) × (plan_now ≡ plan_after plan) × (now ≡ next_count faults)
-IsStarted v before records plan plan_now faults now (Err log_faults.ViewsFull) = ⊥
-IsStarted v before records plan plan_now faults now (Err log_faults.NoMemory) =
-    (records ≡ before) × (plan_now ≡ plan) × (now ≡ faults)
+abbrev pub IsStarted : View → KeeperPicture → KeeperPicture → Result (Unit {0}) LogFault → Type 0
+IsStarted v old new (Ok done) =
+    IsForetold old.plan false × (new.records ≡ old.records ++ view_record v ∷ []) × (new.plan ≡ plan_after old.plan) × (new.faults ≡ old.faults)
+IsStarted v old new (Err log_faults.Failed) =
+    IsForetold old.plan true × (new.records ≡ old.records) × (new.plan ≡ plan_after old.plan) × (new.faults ≡ next_count old.faults)
+IsStarted v old new (Err log_faults.ViewsFull) = ⊥
+IsStarted v old new (Err log_faults.NoMemory) =
+    (new.records ≡ old.records) × (new.plan ≡ old.plan) × (new.faults ≡ old.faults)
 
 -- ---- a request joins
 
 abbrev pub accepted_by : Picture → Version → Tick → Request → Accepted
 accepted_by log version clock request =
     record { position = length_of log; version = version; at = record { 0 = max clock.0 log.time }; request = request }
+
+-- a view can have the version, and where the request is accepted, its record can be read again
+abbrev pub IsWritableIfNew : Picture → Version → Tick → Request → Type 0
+IsWritableIfNew log version clock request =
+    (version.0 ≤ VIEW_LIMIT)
+    × (length_of log < JOURNAL_LIMIT → 0 < version.0 → IsWritable (records.Entry (accepted_by log version clock request)))
 
 -- a request without a key isn't retained
 abbrev pub retained_of : Request → Option Key → Option Request
@@ -99,9 +107,9 @@ IsAppended old version clock request (At i) new =
 IsAppended old version clock request Failed new =
     IsForetold old.plan true × (new ≡ kept old old.records (plan_after old.plan) (next_count old.faults))
 
--- its reply
+-- its first reply; below the mark all stay as the checkpoint wrote them
 abbrev pub with_outcome : Picture → ℕ → Outcome → Picture
-with_outcome log position outcome = record log { table = with_reply log.table position outcome }
+with_outcome log position outcome = record log { table = if nat_lt position log.mark then log.table else with_reply log.table position outcome }
 
 -- ---- the next view
 
@@ -114,7 +122,7 @@ IsViewed old v (Ok done) new =
 IsViewed old v (Err log_faults.Failed) new =
     (old.newest.version.0 < VIEW_LIMIT) × IsForetold old.plan true × (new ≡ kept old old.records (plan_after old.plan) (next_count old.faults))
 IsViewed old v (Err log_faults.ViewsFull) new = (old.newest.version.0 ≡ VIEW_LIMIT) × (new ≡ old)
-IsViewed old v (Err log_faults.NoMemory) new = new ≡ old
+IsViewed old v (Err log_faults.NoMemory) new = (old.newest.version.0 < VIEW_LIMIT) × (new ≡ old)
 
 -- ---- a checkpoint
 
@@ -131,28 +139,28 @@ checkpointed log clock state =
 
 -- After the checkpoint the newest view is written again, and then all records before the checkpoint are
 -- cut. Where the view can't be written, or the cut fails, the checkpoint counts all the same.
-abbrev pub IsTidied : Tidied → List (List ℕ) → List ℕ → List ℕ → Option (List Bool) → ℕ → List (List ℕ) → Option (List Bool) → ℕ → Type 0
-IsTidied Cut before written viewed plan faults records plan_now now =
-    IsForetold plan false × IsForetold (plan_after plan) false
-    × (records ≡ written ∷ viewed ∷ []) × (plan_now ≡ plan_after (plan_after plan)) × (now ≡ faults)
-IsTidied Uncut before written viewed plan faults records plan_now now =
-    IsForetold plan false × IsForetold (plan_after plan) true
-    × (records ≡ before ++ written ∷ viewed ∷ []) × (plan_now ≡ plan_after (plan_after plan)) × (now ≡ next_count faults)
-IsTidied Unwritten before written viewed plan faults records plan_now now =
-    IsForetold plan true
-    × (records ≡ before ++ written ∷ []) × (plan_now ≡ plan_after plan) × (now ≡ next_count faults)
+abbrev pub IsTidied : Tidied → KeeperPicture → List ℕ → List ℕ → KeeperPicture → Type 0
+IsTidied Cut old written viewed new =
+    IsForetold old.plan false × IsForetold (plan_after old.plan) false
+    × (new.records ≡ written ∷ viewed ∷ []) × (new.plan ≡ plan_after (plan_after old.plan)) × (new.faults ≡ old.faults)
+IsTidied Uncut old written viewed new =
+    IsForetold old.plan false × IsForetold (plan_after old.plan) true
+    × (new.records ≡ old.records ++ written ∷ viewed ∷ []) × (new.plan ≡ plan_after (plan_after old.plan)) × (new.faults ≡ next_count old.faults)
+IsTidied Unwritten old written viewed new =
+    IsForetold old.plan true
+    × (new.records ≡ old.records ++ written ∷ []) × (new.plan ≡ plan_after old.plan) × (new.faults ≡ next_count old.faults)
 
 -- the checkpoint's own write decides
-abbrev pub IsTidiedOrFailed : Option Tidied → List (List ℕ) → List ℕ → List ℕ → Option (List Bool) → ℕ → List (List ℕ) → Option (List Bool) → ℕ → Type 0
-IsTidiedOrFailed None before written viewed plan faults records plan_now now =
-    IsForetold plan true × (records ≡ before) × (plan_now ≡ plan_after plan) × (now ≡ next_count faults)
-IsTidiedOrFailed (Some how) before written viewed plan faults records plan_now now =
-    IsForetold plan false × IsTidied how before written viewed (plan_after plan) faults records plan_now now
+abbrev pub IsTidiedOrFailed : Option Tidied → KeeperPicture → List ℕ → List ℕ → KeeperPicture → Type 0
+IsTidiedOrFailed None old written viewed new =
+    IsForetold old.plan true × (new.records ≡ old.records) × (new.plan ≡ plan_after old.plan) × (new.faults ≡ next_count old.faults)
+IsTidiedOrFailed (Some how) old written viewed new =
+    IsForetold old.plan false × IsTidied how (record old { plan = plan_after old.plan }) written viewed new
 
 abbrev pub IsCheckpointed : Picture → Tick → List ℕ → Result (Unit {0}) LogFault → Picture → Type 0
 IsCheckpointed old clock state (Ok done) new =
     IsForetold old.plan false
-    × ((how : Tidied) × IsTidied how old.records (checkpoint_record (checkpoint_of old clock state)) (view_record old.newest) (plan_after old.plan) old.faults new.records new.plan new.faults)
+    × ((how : Tidied) × IsTidied how (record (keeper_of old) { plan = plan_after old.plan }) (checkpoint_record (checkpoint_of old clock state)) (view_record old.newest) (keeper_of new))
     × (new ≡ kept (checkpointed old clock state) new.records new.plan new.faults)
 IsCheckpointed old clock state (Err log_faults.Failed) new =
     IsForetold old.plan true × (new ≡ kept old old.records (plan_after old.plan) (next_count old.faults))

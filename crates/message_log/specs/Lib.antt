@@ -5,4 +5,4 @@ pub mod Standing
 pub mod Laws
 pub mod Opening
 pub mod Written
-pub mod WrittenLaws
+pub mod Retaining

@@ -4,17 +4,18 @@ use Rattle.std.specs.Prelude.{◌≡◌, ℕ, ◌+◌, ◌<◌, ◌≤◌, ◌==
 use Rattle.std.specs.List.{AllByRecursion}
 use Rattle.std.specs.Str.{bytes_eq}
 use Rattle.ft_base.specs.Journal.{Entry}
-use Rattle.ft_base.specs.declared.limits.TheConstants.{VIEW_LIMIT, JOURNAL_LIMIT}
+use Rattle.ft_base.specs.declared.limits.TheConstants.{JOURNAL_LIMIT}
 use Rattle.ft_base.specs.declared.requests.Outcome.{Outcome}
 use Rattle.ft_base.specs.declared.views.View.{View}
 use Rattle.reply_table.specs.Entries.{unanswered, joined, with_reply}
 use Rattle.reply_table.specs.declared.entries.Retained.{Retained}
-use Rattle.log_records.specs.Records.{primary_sign, record_in}
+use Rattle.log_records.specs.Records.{primary_sign, record_in, AreOfVersions, IsVersion, IsLogged}
 use Rattle.log_records.specs.declared.records.Accepted.{Accepted}
 use Rattle.log_records.specs.declared.records.Checkpoint.{Checkpoint}
 use Rattle.log_records.specs.declared.records.Record.{Record}
 use Rattle.log_records.specs.declared.records.Record.TheVariants as records
 use Rattle.message_log.specs.Picture.{Picture}
+use Rattle.message_log.specs.Retaining.{AreRetained, recorded}
 use Rattle.message_log.specs.declared.answers.ReopenFault.{ReopenFault}
 use Rattle.message_log.specs.declared.answers.ReopenFault.TheVariants.{Bad, NoMemory}
 
@@ -46,23 +47,25 @@ after_view c v = if may_follow c.newest v then Some (record c { newest = Some v;
 
 -- ---- an entry
 
+abbrev pub with_accepted : Content → Accepted → Content
+with_accepted c e = record c {
+  entries = c.entries ++ record { at = e.at.0; request = e.request } ∷ [];
+  time = max e.at.0 c.time;
+  table = joined c.table (unanswered e.position e.version e.at e.request) e.request.key;
+}
+
 abbrev pub after_entry : Content → Accepted → Option Content
-after_entry c e =
-    if is_some c.newest && (e.position == c.mark + length c.entries) then Some (record c {
-      entries = c.entries ++ record { at = e.at.0; request = e.request } ∷ [];
-      time = max e.at.0 c.time;
-      table = joined c.table (unanswered e.position e.version e.at e.request) e.request.key;
-    }) else None
+after_entry c e = if is_some c.newest && (e.position == c.mark + length c.entries) then Some (with_accepted c e) else None
 
 -- ---- a checkpoint
 
-abbrev pub replied : List Retained → ℕ → Option Outcome → List Retained
-replied table position None = table
-replied table position (Some outcome) = with_reply table position outcome
+abbrev pub with_its_reply : List Retained → ℕ → Option Outcome → List Retained
+with_its_reply table position None = table
+with_its_reply table position (Some outcome) = with_reply table position outcome
 
 -- a table to which these entries are added
 abbrev pub with_retained : List Retained → Retained → List Retained
-with_retained table e = replied (joined table (unanswered e.position e.version e.at e.request) e.request.key) e.position e.reply
+with_retained table e = with_its_reply (joined table (unanswered e.position e.version e.at e.request) e.request.key) e.position e.reply
 
 abbrev pub filed : List Retained → List Retained → List Retained
 filed table [] = table
@@ -114,14 +117,18 @@ content_of pieces = content_from 0 nothing_yet pieces
 
 -- ---- what is true on the way
 
-abbrev pub HasVersion : Option View → Type 0
-HasVersion None = Unit {0}
-HasVersion (Some v) = (0 < v.version.0) × (v.version.0 ≤ VIEW_LIMIT)
+abbrev pub HasView : Option View → Type 0
+HasView None = Unit {0}
+HasView (Some v) = IsVersion v.version × IsLogged v
 
-pub record IsOpening (newest : Option View) (mark entries : ℕ) (table : List Retained) : Type 0 where
-  pub version : HasVersion newest
+pub record IsOpening (newest : Option View) (begun : Bool) (mark entries : ℕ) (table : List Retained) : Type 0 where
+  pub view : HasView newest
+  pub started : is_some newest ≡ true → begun ≡ true
   pub fits : mark + entries ≤ JOURNAL_LIMIT
   pub positions : AllByRecursion (λ e. e.position < mark + entries) table
+  pub versions : AreOfVersions table
+  pub retained : AreRetained (mark + entries) table
+  pub whole : table ≡ recorded mark table
 
 -- a call told a record's content: that it may stand there, or not; of want of memory nothing is said
 abbrev pub IsTold : {E : Type 0} → Option Content → Result Bool E → Content → Content → Type 0

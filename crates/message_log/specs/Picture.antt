@@ -2,17 +2,23 @@
 use Rattle.std.specs.Prelude.{◌≡◌, ℕ, ◌+◌, ◌-◌, ◌<◌, ◌≤◌, ◌==◌, Bool, true, nat_lt, if◌then◌else◌, List, [], ◌∷◌, ◌++◌, length, slice_get, Option, Some, None, option_map}
 use Rattle.std.specs.List.{AllByRecursion, find}
 use Rattle.ft_base.specs.Journal.{Entry}
-use Rattle.ft_base.specs.Members.{is_member}
-use Rattle.ft_base.specs.declared.limits.TheConstants.{HOST_LIMIT, VIEW_LIMIT, JOURNAL_LIMIT}
-use Rattle.ft_base.specs.declared.numbers.HostNo.{HostNo}
+use Rattle.ft_base.specs.declared.limits.TheConstants.{VIEW_LIMIT, JOURNAL_LIMIT}
 use Rattle.ft_base.specs.declared.requests.Request.{Request}
 use Rattle.ft_base.specs.declared.views.View.{View}
 use Rattle.reply_table.specs.declared.entries.Retained.{Retained}
+use Rattle.log_records.specs.Records.{AreOfVersions}
+pub use Rattle.log_records.specs.Records.{IsPrimaryOf, IsLogged}
 
 -- what memory was taken for: the record of an entry, and its request where it is to be retained
 pub record Reserved : Type 0 where
   pub entry : List ℕ
   pub retained : Option Request
+
+-- what a keeper tells
+pub record KeeperPicture : Type 0 where
+  pub records : List (List ℕ)
+  pub plan : Option (List Bool)
+  pub faults : ℕ
 
 pub record Picture : Type 0 where
   -- the newest view, and those before it in order of version
@@ -32,6 +38,9 @@ pub record Picture : Type 0 where
   pub records : List (List ℕ)
   pub plan : Option (List Bool)
   pub faults : ℕ
+
+abbrev pub keeper_of : Picture → KeeperPicture
+keeper_of log = record { records = log.records; plan = log.plan; faults = log.faults }
 
 -- how many entries the journal has
 abbrev pub length_of : Picture → ℕ
@@ -54,26 +63,18 @@ abbrev pub AreNumbered : List View → ℕ → Type 0
 AreNumbered [] next = Unit {0}
 AreNumbered (v ∷ views) next = (v.version.0 + length (v ∷ views) ≡ next) × AreNumbered views next
 
--- a primary is one of the members
-abbrev pub IsPrimaryOf : List ℕ → Option HostNo → Type 0
-IsPrimaryOf members None = Unit {0}
-IsPrimaryOf members (Some host) = is_member host.0 members ≡ true
-
--- a view that a log can write: its members are hosts that there can be, and a primary is one of them
-pub record IsLogged (view : View) : Type 0 where
-  pub hosts : AllByRecursion (λ host. host < HOST_LIMIT) view.members
-  pub primary : IsPrimaryOf view.members view.primary
-
 -- ---- what is true of every log
 
 -- Views are numbered up to the newest; positions fit, and the newest version does; retained entries are the
--- journal's.
+-- journal's. The newest view can be written again, and so can what is retained.
 pub record IsSound (newest : View) (earlier : List View) (mark entries : ℕ) (table : List Retained) : Type 0 where
   pub numbered : AreNumbered earlier newest.version.0
   pub first : length earlier < newest.version.0
   pub last : newest.version.0 ≤ VIEW_LIMIT
   pub fits : mark + entries ≤ JOURNAL_LIMIT
   pub positions : AllByRecursion (λ e. e.position < mark + entries) table
+  pub logged : IsLogged newest
+  pub versions : AreOfVersions table
 
 -- a table has room for what is to be retained
 abbrev pub HasRow : Option Request → Bool → Type 0

@@ -1,4 +1,4 @@
-use ft_base::{NoMemory, Tick, Version};
+use ft_base::{Admission, NoMemory, Version};
 use thiserror::Error;
 
 /// Whether a request joins the journal: the first that applies.
@@ -6,16 +6,8 @@ use thiserror::Error;
 pub enum Admit {
     /// There is a newer view than the one that its writer knew: this one.
     Deposed(Version),
-    /// Its expiration had come at this moment.
-    Expired(Tick),
-    /// The entry at this position holds its retention id, and is the same request.
-    Same(u32),
-    /// The entry at this position holds its retention id, and is another request.
-    Other(u32),
-    /// The journal has as many entries as it can.
-    Full,
-    /// It is new.
-    New,
+    /// What the journal says of it.
+    Admission(Admission),
 }
 
 /// Whether a request was appended.

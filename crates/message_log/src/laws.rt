@@ -1,10 +1,12 @@
 //! The laws of a log that stands for a journal, and of what its records say of it. The functions do
 //! nothing: their contracts are facts.
 ghost use Rattle.message_log.specs.Laws.{AdmitsAsJournal, LendsJournal, StandsFresh, StandsWithEntry, StandsCut, StandsAnswered};
-ghost use Rattle.message_log.specs.WrittenLaws.{RecordsAreRead, FreshIsWritten, WrittenIsOpened, WrittenIsNotBad, AppendedIsWritten, ViewedIsWritten, CheckpointedIsWritten, CheckpointKeepsReplies, AnsweredIsWritten, RestIsWritten};
+ghost use Rattle.message_log.specs.Written.{RecordsAreRead, IsOpenedAgain, IsNeverBad, KeepsReplies};
 
+use crate::logs::Log;
 use cdr_codec::values_are_read_back;
 use ft_base::requests_join;
+use ft_outside::Keeper;
 
 /// What a log says of its journal, though it has cut and dropped parts of it.
 pub fn logs_say_what_journals_say()
@@ -32,17 +34,11 @@ pub fn records_are_read_again()
 
 /// A log that is stopped after any of its calls and opened again has the same newest view, the same
 /// entries, mark, time and state, and retains the same requests. Of their replies it has those that
-/// the last checkpoint wrote; what has run since has none until it is run again.
-pub fn logs_are_opened_again()
-    ensures fresh { FreshIsWritten }
-    ensures opened { WrittenIsOpened }
-    ensures not_bad { WrittenIsNotBad }
-    ensures appended { AppendedIsWritten }
-    ensures viewed { ViewedIsWritten }
-    ensures checkpointed { CheckpointedIsWritten }
-    ensures replies { CheckpointKeepsReplies }
-    ensures answered { AnsweredIsWritten }
-    ensures rest { RestIsWritten }
+/// the last checkpoint wrote; what has run since has none until it is run again. So it is with every log.
+pub fn logs_are_opened_again<K: Keeper>(log: &Log<K>)
+    ensures resumed { IsOpenedAgain log.now }
+    ensures not_bad { IsNeverBad log.now }
+    ensures replies { KeepsReplies log.now }
 {
-    records_are_read_again();
+    log.is_written_down();
 }

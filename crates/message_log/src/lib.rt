@@ -7,7 +7,7 @@
 //! let version = log.newest().version;
 //! log.reserve(alloc, version, clock, &request)
 //!     .map_err(no_memory)?;
-//! if log.admit(version, clock, &request) != Admit::New {
+//! if log.admit(version, clock, &request) != Admit::Admission(Admission::New) {
 //!     return Ok(None);
 //! }
 //! Ok(Some(log.append_reserved(version, clock, request)))

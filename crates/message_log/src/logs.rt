@@ -3,14 +3,22 @@ ghost use Rattle.ft_outside.specs.Keeping.{failing_next, plan_after, IsForetold}
 ghost use Rattle.message_log.specs.Picture.{length_of, request_at, view_at, AreNumbered, IsLogged};
 ghost use Rattle.message_log.specs.Admission.{admitted};
 ghost use Rattle.message_log.specs.Opening.{content_of, IsReopened, IsBad};
-ghost use Rattle.message_log.specs.Calls.{fresh, reserved_for, IsStarted, IsAppended, IsViewed, IsCheckpointed, with_outcome};
+ghost use Rattle.log_records.specs.Records.{IsVersion};
+ghost use Rattle.log_records.specs.Writable.{IsWritable};
+ghost use Rattle.log_records.specs.declared.records.Record.TheVariants as records;
+ghost use Rattle.message_log.specs.Written.{IsWrittenDown};
+ghost use Rattle.message_log.specs.Calls.{fresh, IsWritableIfNew, reserved_for, IsStarted, IsAppended, IsViewed, IsCheckpointed, with_outcome};
 
 use crate::answers::{Admit, Appended, LogFault, ReopenFault};
 use crate::entries::Entry;
+use crate::laws::records_are_read_again;
 use crate::opening::{Opening, read_all};
 use crate::retaining::{put_retained, reserve_retained};
 use crate::tidying::tidy;
-use ft_base::{Bytes, JOURNAL_LIMIT, NoMemory, Outcome, Request, Tick, VIEW_LIMIT, Version, View};
+use ft_base::{
+    Admission, Bytes, JOURNAL_LIMIT, NoMemory, Outcome, Request, Tick, VIEW_LIMIT, Version, View,
+    push_within,
+};
 use ft_outside::{Keeper, Kept, MemKeeper};
 use log_records::{checkpoint_record, entry_record, view_record};
 use reply_table::{Found, ReplyTable};
@@ -41,28 +49,18 @@ pub struct Log<K: Keeper> {
 }
 
 impl<K: Keeper> Model for Log<K> {
-    ghost use Rattle.std.specs.Prelude.{◌≡◌, ◌+◌, ◌<◌, ◌≤◌, length, vec_len, vec_capacity};
+    ghost use Rattle.std.specs.Prelude.{◌≡◌, ◌+◌, ◌<◌, ◌≤◌, length, vec_len, vec_capacity, Some, true};
     ghost use Rattle.message_log.specs.Picture.{Picture, IsSound};
     ghost use Rattle.message_log.specs.Calls.{reserved_of, IsReady};
+    ghost use Rattle.message_log.specs.Written.{IsOnRecord};
 
     ghost Value = { Picture };
 
     ghost view = { λ l. record { newest = l.newest; earlier = l.earlier.items; mark = l.mark; entries = l.entries.items; time = l.time.0; state = l.state; table = l.table.entries; reserved = reserved_of l.reserved l.retained; records = K.records l.keeper; plan = K.plan l.keeper; faults = K.faults l.keeper } };
 
     ghost invariant = { λ l. IsSound l.newest l.earlier.items l.mark (vec_len l.entries) l.table.entries
-        × IsReady l.reserved l.retained (K.spare l.keeper) (vec_len l.entries) (vec_capacity l.entries) l.table.room };
-}
-
-/// Pushes where there is room.
-fn push_within<T: Drop>(items: &mut Vec<T>, item: T)
-    requires { vec_len items.old < vec_capacity items.old }
-    ensures items { items.new.items ≡ items.old.items ++ item ∷ [] }
-    ensures len { vec_len items.new ≡ vec_len items.old + 1 }
-{
-    match items.push(item) {
-        Ok(()) => {}
-        Err(_) => unreachable!(),
-    }
+        × IsReady l.reserved l.retained (K.spare l.keeper) (vec_len l.entries) (vec_capacity l.entries) l.table.room
+        × IsOnRecord (K.records l.keeper) (record { newest = Some l.newest; begun = true; mark = l.mark; entries = l.entries.items; time = l.time.0; state = l.state; table = l.table.entries }) };
 }
 
 fn view_at_place(views: &Vec<View>, place: usize) -> Option<&View>
@@ -73,7 +71,10 @@ fn view_at_place(views: &Vec<View>, place: usize) -> Option<&View>
 
 /// Writes a log's first record.
 fn start<K: Keeper>(alloc: Global, keeper: &mut K, view: &View) -> Result<(), LogFault>
-    ensures { IsStarted view.now (K.records keeper.old) (K.records keeper.new) (K.plan keeper.old) (K.plan keeper.new) (K.faults keeper.old) (K.faults keeper.new) result }
+    ensures started { IsStarted view.now
+        (record { records = K.records keeper.old; plan = K.plan keeper.old; faults = K.faults keeper.old })
+        (record { records = K.records keeper.new; plan = K.plan keeper.new; faults = K.faults keeper.new }) result }
+    ensures writable { OnOk result (IsVersion view.now.version → IsLogged view.now → IsWritable (records.View view.now)) }
 {
     let Ok(record) = view_record(alloc, view) else {
         return Err(LogFault::NoMemory);
@@ -95,8 +96,11 @@ impl<K: Keeper> Log<K> {
         requires logged { IsLogged view }
         ensures { MatchResult result
             (λ log. IsForetold (K.plan keeper) false × (log ≡ fresh view (plan_after (K.plan keeper)) (K.faults keeper)))
-            (λ refused. IsStarted view (K.records keeper) (K.records refused.1) (K.plan keeper) (K.plan refused.1) (K.faults keeper) (K.faults refused.1) (Err refused.0)) }
+            (λ refused. IsStarted view
+            (record { records = K.records keeper; plan = K.plan keeper; faults = K.faults keeper })
+            (record { records = K.records refused.1; plan = K.plan refused.1; faults = K.faults refused.1 }) (Err refused.0)) }
     {
+        records_are_read_again();
         let mut keeper = keeper;
         if let Err(fault) = start(alloc, &mut keeper, &view) {
             return Err((fault, keeper));
@@ -215,6 +219,13 @@ impl<K: Keeper> Log<K> {
         self.mark
     }
 
+    /// That the log is written down is known of every log. It does nothing.
+    pub fn is_written_down(&self)
+        ensures { IsWrittenDown self.now }
+    {
+        let _ = &self.keeper;
+    }
+
     /// The greatest tick of an acceptance or a checkpoint.
     pub fn time(&self) -> Tick
         ensures { result.0 ≡ self.now.time }
@@ -258,13 +269,15 @@ impl<K: Keeper> Log<K> {
         if let Some(key) = &request.key
             && key.expiration.0 <= now.0
         {
-            return Admit::Expired(now);
+            return Admit::Admission(Admission::Expired(key.expiration));
         }
         match self.table.find(request, now) {
-            Found::Same(position) => Admit::Same(position),
-            Found::Other(position) => Admit::Other(position),
-            Found::Fresh if self.length() as usize >= JOURNAL_LIMIT => Admit::Full,
-            Found::Fresh => Admit::New,
+            Found::Same(position) => Admit::Admission(Admission::Same(position)),
+            Found::Other(position) => Admit::Admission(Admission::Other(position)),
+            Found::Fresh if self.length() as usize >= JOURNAL_LIMIT => {
+                Admit::Admission(Admission::Full)
+            }
+            Found::Fresh => Admit::Admission(Admission::New),
         }
     }
 
@@ -280,6 +293,7 @@ impl<K: Keeper> Log<K> {
     ) -> Result<(), NoMemory>
         ensures ok { OnOk result (self.new ≡ record self.old { reserved = Some (reserved_for self.old version clock request.now) }) }
         ensures possible { OnOk result (version.0 ≤ VIEW_LIMIT) }
+        ensures writable { OnOk result (IsWritableIfNew self.old version clock request.now) }
         ensures left { OnErr result (self.new ≡ self.old) }
     {
         if version.0 > VIEW_LIMIT {
@@ -299,9 +313,11 @@ impl<K: Keeper> Log<K> {
     #[tactic(auto, using(crate::proofs::PictureLaws::new_has_room, crate::proofs::PictureLaws::sound_appended))]
     pub fn append_reserved(&mut self, version: Version, clock: Tick, request: Request) -> Appended
         requires reserved { self.old.reserved ≡ Some (reserved_for self.old version clock request) }
-        requires new { admitted self.old version.0 clock.0 request ≡ Admit.New }
+        requires new { admitted self.old version.0 clock.0 request ≡ Admit.Admission Admission.New }
+        requires writable { IsWritableIfNew self.old version clock request }
         ensures { IsAppended self.old version clock request result self.new }
     {
+        records_are_read_again();
         let position = self.length();
         let at = Tick(clock.0.max(self.time.0));
         let Some(record) = self.reserved.take() else {
@@ -326,6 +342,7 @@ impl<K: Keeper> Log<K> {
         requires logged { IsLogged view }
         ensures { IsViewed self.old view result self.new }
     {
+        records_are_read_again();
         if self.newest.version.0 >= VIEW_LIMIT {
             return Err(LogFault::ViewsFull);
         }
@@ -359,6 +376,7 @@ impl<K: Keeper> Log<K> {
         requires newest { version.0 ≡ self.old.newest.version.0 }
         ensures { IsCheckpointed self.old clock state.now result self.new }
     {
+        records_are_read_again();
         let _version = version;
         let mark = self.length();
         let time = Tick(clock.0.max(self.time.0));
@@ -386,12 +404,15 @@ impl<K: Keeper> Log<K> {
         Ok(())
     }
 
-    /// The entry at a position has run, with this outcome. It takes no memory.
+    /// The entry at a position has run, with this outcome. A reply that is there stays, and so do all
+    /// below the mark. It takes no memory.
     #[tactic(auto, using(crate::proofs::PictureLaws::sound_answered))]
     pub fn set_reply(&mut self, position: u32, outcome: Outcome)
         ensures { self.new ≡ with_outcome self.old position outcome }
     {
-        self.table.set_reply(position, outcome);
+        if position >= self.mark {
+            self.table.set_reply(position, outcome);
+        }
     }
 }
 

@@ -3,12 +3,13 @@ ghost use Rattle.std.specs.Prelude.{◌≡◌, ◌<◌, ◌≤◌, true, [], is_
 ghost use Rattle.std.specs.List.{AllByRecursion};
 ghost use Rattle.ft_base.specs.declared.limits.TheConstants.{VIEW_LIMIT, JOURNAL_LIMIT};
 ghost use Rattle.reply_table.specs.Entries.{IsAfter};
-ghost use Rattle.log_records.specs.Records.{are_rising, record_in, IsInRange};
+ghost use Rattle.log_records.specs.Records.{are_rising, record_in, IsInRange, IsVersion, AreOfVersions, IsLogged};
+ghost use Rattle.message_log.specs.Retaining.{AreRetained};
 ghost use Rattle.message_log.specs.Opening.{nothing_yet, repeats, may_follow, after_view, after_entry, after_checkpoint, after_record, with_retained, filed, after_piece, content_of, IsTold, IsFound};
 
 use crate::answers::ReopenFault;
 use crate::entries::Entry;
-use ft_base::{Bytes, NoMemory, Tick, View};
+use ft_base::{Bytes, NoMemory, Tick, View, push_within};
 use ft_outside::Keeper;
 use log_records::{Accepted, Checkpoint, Record, RetainedList, primary_octet, record_in};
 use reply_table::{ReplyTable, Retained};
@@ -35,7 +36,7 @@ impl Model for Opening {
 
     ghost view = { λ o. record { newest = o.newest; begun = o.begun; mark = o.mark; entries = o.entries.items; time = o.time.0; state = o.state; table = o.table.entries } };
 
-    ghost invariant = { λ o. IsOpening o.newest o.mark (vec_len o.entries) o.table.entries };
+    ghost invariant = { λ o. IsOpening o.newest o.begun o.mark (vec_len o.entries) o.table.entries };
 }
 
 fn repeats(last: &View, view: &View) -> bool
@@ -78,9 +79,12 @@ fn add(table: &mut ReplyTable, entry: Retained) -> Result<(), NoMemory>
 
 /// A table of retained entries, whose positions rise and are below an end.
 fn table_of(alloc: Global, retained: RetainedList, end: u32) -> Result<ReplyTable, NoMemory>
-    requires { are_rising 0 end retained ≡ true }
+    requires rising { are_rising 0 end retained ≡ true }
+    requires versions { AreOfVersions retained }
     ensures filed { IfOk result (λ table. table.entries ≡ filed [] retained) }
     ensures positions { IfOk result (λ table. AllByRecursion (λ e. e.position < end) table.entries) }
+    ensures versions { IfOk result (λ table. AreOfVersions table.entries) }
+    ensures retained { IfOk result (λ table. AreRetained end table.entries) }
 {
     let mut table = ReplyTable::new(alloc);
     let mut rest = retained.into_vec().into_iter();
@@ -107,7 +111,7 @@ impl Opening {
     }
 
     fn tell_view(&mut self, view: View) -> Result<bool, NoMemory>
-        requires { (0 < view.version.0) × (view.version.0 ≤ VIEW_LIMIT) }
+        requires { IsVersion view.version × IsLogged view }
         ensures { IsTold (after_view self.old view) result self.old self.new }
     {
         if !may_follow(&self.newest, &view) {
@@ -118,9 +122,8 @@ impl Opening {
         Ok(true)
     }
 
-    #[tactic(auto, using(crate::proofs::PictureLaws::opening_entered))]
     fn tell_entry(&mut self, alloc: Global, entry: Accepted) -> Result<bool, NoMemory>
-        requires { entry.position < JOURNAL_LIMIT }
+        requires { (entry.position < JOURNAL_LIMIT) × IsVersion entry.version }
         ensures { IsTold (after_entry self.old entry) result self.old self.new }
     {
         if self.newest.is_none()
@@ -133,9 +136,7 @@ impl Opening {
         self.table.reserve()?;
         self.table
             .put_reserved(entry.position, entry.version, entry.at, row);
-        self.entries
-            .push(Entry::new(entry.at, entry.request))
-            .unwrap();
+        push_within(&mut self.entries, Entry::new(entry.at, entry.request));
         self.time = Tick(entry.at.0.max(self.time.0));
         Ok(true)
     }
@@ -143,6 +144,7 @@ impl Opening {
     fn tell_checkpoint(&mut self, alloc: Global, checkpoint: Checkpoint) -> Result<bool, NoMemory>
         requires mark { checkpoint.mark ≤ JOURNAL_LIMIT }
         requires rising { are_rising 0 checkpoint.mark checkpoint.retained ≡ true }
+        requires versions { AreOfVersions checkpoint.retained }
         ensures { IsTold (after_checkpoint self.old checkpoint) result self.old self.new }
     {
         let end = self.mark as usize + self.entries.len();

@@ -21,7 +21,9 @@ pub enum Tidied {
 #[tactic(auto, using(crate::proofs::PictureLaws::two_more, crate::proofs::PictureLaws::cut_before))]
 pub(crate) fn tidy<K: Keeper>(keeper: &mut K, checkpoint: Bytes, view: Bytes) -> Option<Tidied>
     requires { 1 < K.spare keeper.old }
-    ensures { IsTidiedOrFailed result (K.records keeper.old) checkpoint view (K.plan keeper.old) (K.faults keeper.old) (K.records keeper.new) (K.plan keeper.new) (K.faults keeper.new) }
+    ensures { IsTidiedOrFailed result
+        (record { records = K.records keeper.old; plan = K.plan keeper.old; faults = K.faults keeper.old }) checkpoint view
+        (record { records = K.records keeper.new; plan = K.plan keeper.new; faults = K.faults keeper.new }) }
 {
     let before = keeper.count();
     if let Kept::Failed = keeper.append(checkpoint) {

@@ -1,6 +1,5 @@
 //! Messages of GIOP.
 ghost use Rattle.std.specs.Prelude.{◌≡◌, ◌≤◌, length, IsTrue};
-ghost use Rattle.ft_base.specs.Text.{zero_place};
 ghost use Rattle.giop_messages.specs.Fields.{locate_statuses, statuses_1_2};
 ghost use Rattle.giop_messages.specs.Messages.{giop};
 ghost use Rattle.giop_messages.specs.Writing.{IsAmong, Writable};
@@ -8,6 +7,7 @@ ghost use Rattle.message_rows.specs.Short.{AreFew, IsShortBody, IsShortRequest, 
 
 use crate::forms::put_form;
 use cdr_codec::{Order, Raw};
+use ft_base::first_zero;
 use ft_contexts::{Context, Contexts};
 use giop_messages::{Form, Message, ReplyMsg, RequestMsg, read_message, write_message};
 use row_words::{RowFault, bytes_of, put_bytes, put_hex};
@@ -68,12 +68,6 @@ fn is_short(bytes: &[u8]) -> bool
     ensures { IsTrue result → length bytes.now ≤ PART_LIMIT }
 {
     bytes.len() <= PART_LIMIT
-}
-
-fn first_zero(bytes: &[u8]) -> Option<usize>
-    ensures { result ≡ zero_place bytes.now }
-{
-    bytes.iter().position(|byte| *byte == 0)
 }
 
 fn are_few(contexts: &[Context]) -> bool

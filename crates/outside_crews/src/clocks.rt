@@ -1,8 +1,10 @@
 ghost use Rattle.std.specs.Prelude.{◌≡◌, ◌≤◌, max};
+ghost use Rattle.std.specs.Time.{instant_nanos};
+ghost use Rattle.outside_crews.specs.Moments.{millis_between};
 
 use ft_base::Tick;
 use std::time;
-use std::time::SystemTime;
+use std::time::Instant;
 
 /// What tells the moment. `moment` is the clock's own one, where it tells that.
 pub trait Clock {
@@ -40,33 +42,34 @@ impl Clock for SetClock {
     }
 }
 
-/// The system's clock, in units of 100 nanoseconds since the start of 15 October 1582 (`TimeBase::TimeT`). Where it
-/// can't be read, or reads a moment past 64 bits, it answers what it was asked for.
+/// The system's clock, in milliseconds since it was made. Where it can't be read, or couldn't be when it was made, it
+/// answers what it was asked for.
 #[derive(Drop)]
 pub struct StdClock<R: time::Clock + Drop> {
     rt: R,
+    start: Option<Instant>,
 }
 
-// From the start of 15 October 1582 to that of 1970.
-const UNITS_TO_1970: u128 = 122_192_928_000_000_000;
-
-// The units from the start of 1582's calendar, or 0 where they can't be told.
-fn units_now<R: time::Clock>(rt: &R) -> u64 {
-    let Ok(now) = SystemTime::now(rt) else {
-        return 0;
-    };
-    let Ok(since) = now.duration_since(SystemTime::UNIX_EPOCH) else {
-        return 0;
-    };
-    let units = (since.as_nanos() / 100).saturating_add(UNITS_TO_1970);
-    u64::try_from(units).unwrap_or(0)
+// The whole milliseconds from one reading of the system's clock to another.
+fn millis_between(start: Instant, now: Instant) -> u64
+    ensures { result ≡ millis_between (instant_nanos start) (instant_nanos now) }
+{
+    let millis = now.duration_since(start).as_millis();
+    u64::try_from(millis).unwrap_or(u64::MAX)
 }
 
 impl<R: time::Clock + Drop> StdClock<R> {
     pub fn new(rt: R) -> StdClock<R>
         ensures { result.rt ≡ rt }
     {
-        StdClock { rt }
+        let start = Instant::now(&rt).ok();
+        StdClock { rt, start }
+    }
+
+    // How long ago it was made, as far as that can be told.
+    fn age(&self) -> Option<u64> {
+        let now = Instant::now(&self.rt).ok()?;
+        Some(millis_between(self.start?, now))
     }
 }
 
@@ -76,6 +79,6 @@ impl<R: time::Clock + Drop> Clock for StdClock<R> {
     ghost moment = { λ _. None };
 
     fn now(&self, atleast: Tick) -> Tick {
-        Tick(units_now(&self.rt).max(atleast.0))
+        Tick(self.age().unwrap_or(0).max(atleast.0))
     }
 }

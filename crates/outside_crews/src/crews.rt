@@ -1,10 +1,10 @@
-ghost use Rattle.std.specs.Prelude.{◌≡◌, [], IfOk};
-ghost use Rattle.outside_schedules.specs.Counts.{schedule_of};
+ghost use Rattle.std.specs.Prelude.{◌≡◌, ◌<◌, [], length, IfOk, OnErr};
+ghost use Rattle.ft_outside.specs.Schedules.{schedule_of};
 ghost use Rattle.outside_crews.specs.Starts.{IsStarted};
 
 use crate::jobs::{Job, Running, start_thread};
 use ft_base::NoMemory;
-use outside_schedules::Schedule;
+use ft_outside::Schedule;
 use std::alloc::Global;
 use std::marker::Model;
 use std::thread::Threads;
@@ -47,7 +47,8 @@ impl<R: Threads + Drop> Crew<R> {
 
     /// A crew for tests. `fails` are the numbers, from 1, of the starts that it is to refuse.
     pub fn refusing(rt: R, alloc: Global, fails: &[u64]) -> Result<Crew<R>, NoMemory>
-        ensures { IfOk result (λ crew. crew ≡ schedule_of fails.now) }
+        ensures schedule { IfOk result (λ crew. crew ≡ schedule_of fails.now) }
+        ensures some { OnErr result (0 < length fails.now) }
     {
         let schedule = Schedule::new(alloc, fails)?;
         Ok(Crew { rt, schedule })

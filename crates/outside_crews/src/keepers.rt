@@ -1,4 +1,4 @@
-ghost use Rattle.std.specs.Prelude.{◌≡◌, [], IfOk};
+ghost use Rattle.std.specs.Prelude.{◌≡◌, []};
 
 use ft_base::{Bytes, NoMemory};
 use ft_outside::{Keeper, Kept, MemKeeper};
@@ -25,12 +25,12 @@ impl Model for CalmKeeper {
 }
 
 impl CalmKeeper {
-    /// A keeper without records.
-    pub fn new(alloc: Global) -> Result<CalmKeeper, NoMemory>
-        ensures { IfOk result (λ keeper. keeper ≡ record { records = []; spare = 0; plan = []; faults = 0 }) }
+    /// A keeper without records. It takes no memory.
+    pub fn new(alloc: Global) -> CalmKeeper
+        ensures { result ≡ record { records = []; spare = 0; plan = []; faults = 0 } }
     {
-        let keeper = MemKeeper::new(alloc, &[])?;
-        Ok(CalmKeeper { keeper })
+        let keeper = MemKeeper::new(alloc, &[]).unwrap();
+        CalmKeeper { keeper }
     }
 }
 

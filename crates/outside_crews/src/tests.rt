@@ -3,7 +3,9 @@ ghost use Rattle.std.specs.Prelude.{◌≡◌};
 use crate::{CalmKeeper, Clock, Crew, Job, SetClock, Started, StdClock, join_both};
 use ft_base::{Bytes, NoMemory, Tick};
 use ft_outside::{Keeper, Kept};
+use std::thread;
 use std::thread::Threads;
+use std::time::Duration;
 
 // Gives its number.
 #[derive(Drop)]
@@ -66,17 +68,21 @@ fn a_clock_is_never_before_what_is_asked(rt: HostRuntime) {
     let set = SetClock::new(Tick(5));
     assert_eq!(rt; set.now(Tick(3)), Tick(5));
     assert_eq!(rt; set.now(Tick(9)), Tick(9));
-    // the start of 2020, in the units of a request's expiration
-    let known = Tick(137_971_296_000_000_000);
-    let system = StdClock::new(rt);
-    assert!(rt; system.now(Tick(0)).0 > known.0);
-    assert_eq!(rt; system.now(Tick(u64::MAX)), Tick(u64::MAX));
+    assert_eq!(rt; StdClock::new(rt).now(Tick(u64::MAX)), Tick(u64::MAX));
+}
+
+#[test]
+fn the_system_s_clock_counts_milliseconds_since_it_was_made(rt: HostRuntime) {
+    let clock = StdClock::new(rt);
+    thread::sleep(&rt, Duration::from_millis(20));
+    let moment = clock.now(Tick(0)).0;
+    assert!(rt; (20..60_000).contains(&moment), "{moment}");
 }
 
 #[test]
 fn a_calm_keeper_keeps_all(rt: HostRuntime) -> Result<(), NoMemory> {
     let alloc = rt.alloc();
-    let mut keeper = CalmKeeper::new(alloc)?;
+    let mut keeper = CalmKeeper::new(alloc);
     keeper.reserve(alloc, 2)?;
     assert_eq!(rt; keeper.append(Bytes::of(alloc, b"a")?), Kept::Done);
     assert_eq!(rt; keeper.append(Bytes::of(alloc, b"b")?), Kept::Done);

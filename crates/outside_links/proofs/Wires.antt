@@ -1,7 +1,7 @@
 -- The exact clauses of a link in memory give those of the traits.
-use Rattle.std.proofs.Common.{◌≡◌, ℕ, Bool, true, false, List, ◌++◌, take, drop, Option, Some, refl, sym, ap, ◌∙◌, arith}
-use Rattle.std.proofs.lemmas.List.{take-append-drop}
+use Rattle.std.proofs.Common.{◌≡◌, ℕ, true, List, ◌++◌, take, Some, refl, sym, ap, ◌∙◌, arith}
 use Rattle.std.proofs.Math.Seq.{take-length}
+use Rattle.ft_outside.specs.Gains.{left_splits}
 use Rattle.outside_links.specs.Wires.{Wire, IsReceived, IsSent}
 use Rattle.ft_outside.specs.Outside.{IsRead, IsWritten}
 use Rattle.ft_outside.specs.declared.sources.Got.{Got}
@@ -9,13 +9,10 @@ use Rattle.ft_outside.specs.declared.sources.Got.TheVariants as gots
 use Rattle.ft_outside.specs.declared.sinks.Put.{Put}
 use Rattle.ft_outside.specs.declared.sinks.Put.TheVariants as puts
 
-front_rest : (n : ℕ) (into left rest : List ℕ) → take n into ≡ take n left → rest ≡ drop n left → left ≡ take n into ++ rest
-front_rest n into left rest e r = sym (ap (λ (xs : List ℕ). xs ++ rest) e ∙ ap (λ (ys : List ℕ). take n left ++ ys) r ∙ take-append-drop n left)
-
 pub received_reads : (old new : Wire) (into : List ℕ) (got : Got) → IsReceived old new into got
     → IsRead (Some old.left) (Some new.left) old.schedule.faults new.schedule.faults into got
 received_reads old new into (gots.Bytes n) h =
-    (h.2, omega (arith, h.3), ap Some (front_rest n into old.left new.left h.4 (ap (λ (w : Wire). w.left) h.5)), ap (λ (w : Wire). w.schedule.faults) h.5)
+    (h.2, omega (arith, h.3), ap Some (left_splits n into old.left new.left h.4 (ap (λ (w : Wire). w.left) h.5)), ap (λ (w : Wire). w.schedule.faults) h.5)
 received_reads old new into gots.End h =
     (ap (λ (w : Wire). Some w.left) h.3, ap Some h.2, ap (λ (w : Wire). w.schedule.faults) h.3)
 received_reads old new into gots.Failed h =

@@ -1,6 +1,12 @@
 -- What dialers and networks hand out, and what comes back, as relations between what they tell before and after.
 -- Each is None where it isn't told; that then stays so.
-use Rattle.std.specs.Prelude.{◌≡◌, ℕ, ◌+◌, ◌<◌, List, [], ◌∷◌, ◌++◌, Option, Some, None, option_map}
+use Rattle.std.specs.Prelude.{◌≡◌, ℕ, ◌<◌, List, [], ◌∷◌, ◌++◌, Option, Some, None, option_map}
+
+-- where a link leads
+pub record Target : Type 0 where
+  -- what the host is called
+  pub host : List ℕ
+  pub port : ℕ
 
 -- the first place is taken away, and what was handed out has those bytes left
 abbrev pub IsFirst : Option (List (List ℕ)) → Option (List (List ℕ)) → Option (List ℕ) → Type 0
@@ -12,23 +18,19 @@ abbrev pub IsGained : Option (List (List ℕ)) → Option (List (List ℕ)) → 
 IsGained None now holds = now ≡ None
 IsGained (Some sent) now holds = ((held : List ℕ) × (holds ≡ Some held) × (now ≡ Some (sent ++ held ∷ [])))
 
--- what is held, if that is told, is nothing
-abbrev pub IsEmpty : Option (List ℕ) → Type 0
-IsEmpty holds = holds ≡ option_map (λ _. []) holds
+-- a list, if it is told, has nothing
+abbrev pub IsEmpty : {A : Type 0} → Option (List A) → Type 0
+IsEmpty told = told ≡ option_map (λ _. []) told
 
 -- so many, if that is told, and more than none
 abbrev pub IsLent : Option ℕ → Type 0
 IsLent None = Unit {0}
 IsLent (Some n) = 0 < n
 
--- none of what was handed out is out, and none came back, if that is told
+-- none of what was handed out is out, if that is told
 abbrev pub IsNoneOut : Option ℕ → Type 0
 IsNoneOut None = Unit {0}
 IsNoneOut (Some n) = n ≡ 0
-
-abbrev pub IsNoneBack : Option (List (List ℕ)) → Type 0
-IsNoneBack None = Unit {0}
-IsNoneBack (Some sent) = sent ≡ []
 
 -- the first caller is handed out, and where none is left one without links
 abbrev pub IsCaller : Option (List (List (List ℕ))) → Option (List (List (List ℕ))) → Option (List (List ℕ)) → Type 0

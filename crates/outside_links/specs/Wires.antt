@@ -1,8 +1,8 @@
 -- A link in memory, exactly.
 use Rattle.std.specs.Prelude.{◌≡◌, ℕ, ◌+◌, ◌-◌, ◌<◌, ◌≤◌, ◌⊎◌, min, Bool, true, false, List, [], ◌∷◌, ◌++◌, length, take, drop, Option, Some, None}
-use Rattle.ft_outside.specs.Outside.{next_count}
-use Rattle.outside_schedules.specs.Counts.{added}
+use Rattle.ft_outside.specs.Outside.{next_count, added}
 use Rattle.ft_outside.specs.Schedules.{Schedule, is_failing, after_call, after_fault}
+use Rattle.outside_links.specs.Lending.{Target}
 use Rattle.ft_outside.specs.declared.sources.Got.{Got}
 use Rattle.ft_outside.specs.declared.sources.Got.TheVariants as gots
 use Rattle.ft_outside.specs.declared.sinks.Put.{Put}
@@ -41,9 +41,11 @@ IsSent old new piece puts.Failed =
 abbrev pub IsFresh : Wire → Type 0
 IsFresh w = (w.schedule.faults ≡ 0) × (w.held ≡ []) × (w.closed ≡ false)
 
--- a caller in memory: its next links, those that came back, how many are out, and its count of faults
+-- a caller in memory: its next links, where those that it gave lead, those that came back, how many are out, and its
+-- count of faults
 pub record Calling : Type 0 where
   pub links : List Wire
+  pub targets : List Target
   pub taken : List Wire
   pub lent : ℕ
   pub faults : ℕ
@@ -61,10 +63,15 @@ pub record Netting : Type 0 where
   pub schedule : Schedule
   pub broken : ℕ
 
+-- a caller with these links, of which it gave none
+abbrev pub calling : List Wire → Calling
+calling links = record { links = links; targets = []; taken = []; lent = 0; faults = 0 }
+
 -- a dial gives the first link, and fails exactly where none is left
-abbrev pub IsDialed : Calling → Calling → Option Wire → Type 0
-IsDialed old new None = (old.links ≡ []) × (new ≡ record old { faults = next_count old.faults })
-IsDialed old new (Some link) = (old.links ≡ link ∷ new.links) × (new ≡ record old { links = new.links; lent = old.lent + 1 })
+abbrev pub IsDialed : Target → Calling → Calling → Option Wire → Type 0
+IsDialed target old new None = (old.links ≡ []) × (new ≡ record old { faults = next_count old.faults })
+IsDialed target old new (Some link) =
+    (old.links ≡ link ∷ new.links) × (new ≡ record old { links = new.links; targets = old.targets ++ target ∷ []; lent = old.lent + 1 })
 
 -- what comes back is closed
 abbrev pub shut : Wire → Wire
@@ -89,4 +96,4 @@ abbrev pub IsNewDoor : Answering → Type 0
 IsNewDoor door = door.faults ≡ 0
 
 abbrev pub IsNewCaller : Calling → Type 0
-IsNewCaller caller = (caller.taken ≡ []) × (caller.lent ≡ 0) × (caller.faults ≡ 0)
+IsNewCaller caller = (caller.targets ≡ []) × (caller.taken ≡ []) × (caller.lent ≡ 0) × (caller.faults ≡ 0)

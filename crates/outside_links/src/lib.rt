@@ -18,10 +18,13 @@
 //! ```
 #![tactic(auto)]
 
+mod hosts;
 mod links;
 mod mem_callers;
 mod mem_links;
 mod mem_networks;
+mod sending;
+mod targets;
 mod tcp_links;
 mod tcp_networks;
 
@@ -29,6 +32,8 @@ pub use links::{Acceptor, Dialer, Link, Network};
 pub use mem_callers::MemCaller;
 pub use mem_links::MemLink;
 pub use mem_networks::{MemDoor, MemNetwork};
+pub use sending::send_all;
+pub use targets::Target;
 pub use tcp_links::TcpLink;
 pub use tcp_networks::{TcpCaller, TcpDoor, TcpNetwork};
 

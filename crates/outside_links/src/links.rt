@@ -4,7 +4,7 @@ use ft_outside::{Got, Put, Sink, Source};
 /// A link to a peer: bytes both ways. (GIOP chapter, "GIOP Message Transport".) Reads and writes have one count of faults, `faults`.
 ///
 /// `receive` and `send` are `read` and `write` that also say what they leave of the other way.
-pub trait Link: Source + Sink + Send + Drop {
+pub trait Link: Source + Sink + Drop {
     ghost use Rattle.std.specs.Prelude.{◌≡◌, ℕ, ◌<◌, Bool, true, if◌then◌else◌, length};
     ghost use Rattle.ft_outside.specs.Outside.{IsRead, IsWritten, next_count};
 
@@ -39,17 +39,16 @@ pub trait Link: Source + Sink + Send + Drop {
     ghost write_faults: { (link : Self) → Self.Sink.count link ≡ faults link };
 }
 
-/// What dials. `links` is what its next links have left, `sent` what those that came back held, and `lent` how many
-/// are out, each where it tells that.
-pub trait Dialer: Send + Drop {
-    type Link: Link;
-
-    ghost use Rattle.std.specs.Prelude.{◌≡◌, ℕ, ◌+◌, List, Option, Some, IsSome, is_some, false, option_map, MatchOption};
-    ghost use Rattle.ft_outside.specs.Outside.{next_count};
-    ghost use Rattle.outside_schedules.specs.Counts.{added};
-    ghost use Rattle.outside_links.specs.Lending.{IsFirst, IsGained, IsEmpty, IsLent};
+/// What dials. `links` is what its next links have left, `targets` where those that it gave lead, `sent` what those
+/// that came back held, and `lent` how many are out, each where it tells that.
+pub trait Dialer<L: Link>: Drop {
+    ghost use Rattle.std.specs.Prelude.{◌≡◌, ℕ, ◌+◌, List, [], ◌∷◌, ◌++◌, Option, Some, IsSome, is_some, false, option_map, MatchOption};
+    ghost use Rattle.ft_outside.specs.Outside.{next_count, added};
+    ghost use Rattle.outside_links.specs.Lending.{Target, IsFirst, IsGained, IsEmpty, IsLent};
 
     ghost links: { Self → Option (List (List ℕ)) };
+
+    ghost targets: { Self → Option (List Target) };
 
     ghost sent: { Self → Option (List (List ℕ)) };
 
@@ -57,55 +56,52 @@ pub trait Dialer: Send + Drop {
 
     ghost count: { Self → ℕ };
 
-    fn dial(&mut self, host: &Name, port: u16) -> Option<Self::Link>
-        ensures links { MatchOption result (links self.new ≡ links self.old) (λ link. IsFirst (links self.old) (links self.new) (Self.Link.left link)) }
-        ensures fresh { MatchOption result (Unit {0}) (λ link. (Self.Link.faults link ≡ 0) × (Self.Link.closed link ≡ false) × IsEmpty (Self.Link.holds link)) }
+    fn dial(&mut self, host: &Name, port: u16) -> Option<L>
+        ensures links { MatchOption result (links self.new ≡ links self.old) (λ link. IsFirst (links self.old) (links self.new) (L.left link)) }
+        ensures fresh { MatchOption result (Unit {0}) (λ link. (L.faults link ≡ 0) × (L.closed link ≡ false) × IsEmpty (L.holds link)) }
+        ensures targets { MatchOption result (targets self.new ≡ targets self.old) (λ _. targets self.new ≡ option_map (λ ts. ts ++ record { host = host.now; port = port } ∷ []) (targets self.old)) }
         ensures lent { MatchOption result (lent self.new ≡ lent self.old) (λ _. lent self.new ≡ option_map (λ n. n + 1) (lent self.old)) }
         ensures sent { sent self.new ≡ sent self.old }
         ensures faults { MatchOption result (count self.new ≡ next_count (count self.old)) (λ _. count self.new ≡ count self.old) };
 
     /// Closes a link that was handed out.
-    fn take_back(&mut self, link: Self::Link)
+    fn take_back(&mut self, link: L)
         requires { IsLent (lent self.old) }
-        ensures sent { IsGained (sent self.old) (sent self.new) (Self.Link.holds link) }
+        ensures sent { IsGained (sent self.old) (sent self.new) (L.holds link) }
         ensures lent { lent self.old ≡ option_map (λ n. n + 1) (lent self.new) }
         ensures links { links self.new ≡ links self.old }
-        ensures faults { count self.new ≡ added (count self.old) (Self.Link.faults link) };
+        ensures targets { targets self.new ≡ targets self.old }
+        ensures faults { count self.new ≡ added (count self.old) (L.faults link) };
 }
 
-/// What waits for links at a port.
-pub trait Acceptor: Send + Drop {
-    type Link: Link;
-
+/// What waits for links at a port of its own.
+pub trait Acceptor<L: Link>: Drop {
     ghost use Rattle.std.specs.Prelude.{◌≡◌, ℕ, List, Option, false, MatchOption};
     ghost use Rattle.ft_outside.specs.Outside.{next_count};
     ghost use Rattle.outside_links.specs.Lending.{IsFirst, IsEmpty};
 
     ghost links: { Self → Option (List (List ℕ)) };
 
+    ghost own_port: { Self → ℕ };
+
     ghost count: { Self → ℕ };
 
-    fn accept(&mut self) -> Option<Self::Link>
-        ensures links { MatchOption result (links self.new ≡ links self.old) (λ link. IsFirst (links self.old) (links self.new) (Self.Link.left link)) }
-        ensures fresh { MatchOption result (Unit {0}) (λ link. (Self.Link.faults link ≡ 0) × (Self.Link.closed link ≡ false) × IsEmpty (Self.Link.holds link)) }
+    fn accept(&mut self) -> Option<L>
+        ensures links { MatchOption result (links self.new ≡ links self.old) (λ link. IsFirst (links self.old) (links self.new) (L.left link)) }
+        ensures fresh { MatchOption result (Unit {0}) (λ link. (L.faults link ≡ 0) × (L.closed link ≡ false) × IsEmpty (L.holds link)) }
+        ensures port { own_port self.new ≡ own_port self.old }
         ensures faults { MatchOption result (count self.new ≡ next_count (count self.old)) (λ _. count self.new ≡ count self.old) };
 
-    fn port(&self) -> u16;
+    fn port(&self) -> u16
+        ensures { result ≡ own_port self.now };
 }
 
 /// What hands out doors and callers. `callers` is what the links of its next callers have left, where it tells that.
 /// `broken` counts the faults of callers that came back.
-pub trait Network {
-    type Link: Link;
-
-    type Door: Acceptor<Link = Self::Link> + 'static;
-
-    type Caller: Dialer<Link = Self::Link> + 'static;
-
+pub trait Network<L: Link, A: Acceptor<L>, D: Dialer<L>> {
     ghost use Rattle.std.specs.Prelude.{◌≡◌, ℕ, List, Option, MatchOption};
-    ghost use Rattle.ft_outside.specs.Outside.{next_count};
-    ghost use Rattle.outside_links.specs.Lending.{IsCaller, IsNoneOut, IsNoneBack};
-    ghost use Rattle.outside_schedules.specs.Counts.{added};
+    ghost use Rattle.ft_outside.specs.Outside.{next_count, added};
+    ghost use Rattle.outside_links.specs.Lending.{IsCaller, IsEmpty, IsNoneOut};
 
     ghost callers: { Self → Option (List (List (List ℕ))) };
 
@@ -113,22 +109,23 @@ pub trait Network {
 
     ghost broken: { Self → ℕ };
 
-    fn bind(&mut self) -> Option<Self::Door>
-        ensures fresh { MatchOption result (Unit {0}) (λ door. Self.Door.count door ≡ 0) }
+    fn bind(&mut self) -> Option<A>
+        ensures fresh { MatchOption result (Unit {0}) (λ door. A.count door ≡ 0) }
         ensures faults { MatchOption result (count self.new ≡ next_count (count self.old)) (λ _. count self.new ≡ count self.old) }
         ensures broken { broken self.new ≡ broken self.old }
         ensures callers { callers self.new ≡ callers self.old };
 
-    fn caller(&mut self) -> Self::Caller
-        ensures fresh { Self.Caller.count result ≡ 0 }
-        ensures none_out { IsNoneOut (Self.Caller.lent result) }
-        ensures none_back { IsNoneBack (Self.Caller.sent result) }
-        ensures callers { IsCaller (callers self.old) (callers self.new) (Self.Caller.links result) }
+    fn caller(&mut self) -> D
+        ensures fresh { D.count result ≡ 0 }
+        ensures none_out { IsNoneOut (D.lent result) }
+        ensures none_back { IsEmpty (D.sent result) }
+        ensures none_dialled { IsEmpty (D.targets result) }
+        ensures callers { IsCaller (callers self.old) (callers self.new) (D.links result) }
         ensures faults { count self.new ≡ count self.old }
         ensures broken { broken self.new ≡ broken self.old };
 
-    fn take_caller(&mut self, caller: Self::Caller)
-        ensures broken { broken self.new ≡ added (broken self.old) (Self.Caller.count caller) }
+    fn take_caller(&mut self, caller: D)
+        ensures broken { broken self.new ≡ added (broken self.old) (D.count caller) }
         ensures faults { count self.new ≡ count self.old }
         ensures callers { callers self.new ≡ callers self.old };
 }

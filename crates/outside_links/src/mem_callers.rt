@@ -1,46 +1,52 @@
-ghost use Rattle.std.specs.Prelude.{◌≡◌, ◌+◌, ◌<◌, ◌∷◌, All, IfOk, IfSome, MatchOption, [], option_copied, option_map, slice_get};
+ghost use Rattle.std.specs.Prelude.{◌≡◌, ◌+◌, ◌<◌, ◌∷◌, All, IfOk, OnErr, IfSome, MatchOption, [], option_copied, option_map, slice_get};
 ghost use Rattle.std.specs.VecDeque.{deque_len};
-ghost use Rattle.outside_links.specs.Wires.{IsDialed, IsFresh, taken_back};
+ghost use Rattle.outside_links.specs.Wires.{IsDialed, IsFresh, calling, taken_back};
 
 use crate::links::{Dialer, Link};
 use crate::mem_links::MemLink;
+use crate::targets::Target;
 use ft_base::{Name, NoMemory};
-use outside_schedules::{add_counts, next_count};
+use ft_outside::{add_counts, next_count};
 use std::alloc::Global;
 use std::collections::VecDeque;
 use std::marker::Model;
 
-/// A caller in memory, which hands out the links that it was made with. Places for those that come back were made
-/// with it, so that no call takes memory.
+/// A caller in memory, which hands out the links that it was made with. Places for those that come back, and for where
+/// each leads, were made with it, so that no call takes memory.
 #[derive(Drop)]
 pub struct MemCaller {
     links: VecDeque<MemLink>,
+    targets: Vec<Target>,
     taken: VecDeque<MemLink>,
     lent: usize,
     faults: u64,
 }
 
 impl Model for MemCaller {
-    ghost use Rattle.std.specs.Prelude.{◌+◌, ◌≤◌, All};
+    ghost use Rattle.std.specs.Prelude.{◌+◌, ◌≤◌, All, vec_len, vec_capacity};
     ghost use Rattle.std.specs.VecDeque.{deque_len, deque_capacity};
     ghost use Rattle.outside_links.specs.Wires.{Calling, IsFresh};
 
     ghost Value = { Calling };
 
-    ghost view = { λ c. record { links = c.links.items; taken = c.taken.items; lent = c.lent; faults = c.faults } };
+    ghost view = { λ c. record { links = c.links.items; targets = c.targets.items; taken = c.taken.items; lent = c.lent; faults = c.faults } };
 
-    ghost invariant = { λ c. All IsFresh c.links.items × (deque_len c.links + c.lent + deque_len c.taken ≤ deque_capacity c.taken) };
+    ghost invariant = { λ c. All IsFresh c.links.items × (deque_len c.links + c.lent + deque_len c.taken ≤ deque_capacity c.taken)
+        × (deque_len c.links + vec_len c.targets ≤ vec_capacity c.targets) };
 }
 
 impl MemCaller {
     /// A caller with these links.
     pub fn new(alloc: Global, links: VecDeque<MemLink>) -> Result<MemCaller, NoMemory>
         requires { All IsFresh links.items }
-        ensures { IfOk result (λ caller. caller ≡ record { links = links.items; taken = []; lent = 0; faults = 0 }) }
+        ensures value { IfOk result (λ caller. caller ≡ calling links.items) }
+        ensures some { OnErr result (0 < deque_len links) }
     {
+        let targets = Vec::with_capacity(alloc, links.len())?;
         let taken = VecDeque::with_capacity(alloc, links.len())?;
         Ok(MemCaller {
             links,
+            targets,
             taken,
             lent: 0,
             faults: 0,
@@ -49,23 +55,25 @@ impl MemCaller {
 
     /// A caller with no links.
     pub fn without_links(alloc: Global) -> MemCaller
-        ensures { result ≡ record { links = []; taken = []; lent = 0; faults = 0 } }
+        ensures { result ≡ calling [] }
     {
         MemCaller {
             links: VecDeque::new(alloc),
+            targets: Vec::new(alloc),
             taken: VecDeque::new(alloc),
             lent: 0,
             faults: 0,
         }
     }
 
-    /// The link that the next dial gives, to whatever port.
-    pub fn next_link(&mut self) -> Option<MemLink>
-        ensures exact { IsDialed self.old self.new result }
+    /// The next link, which leads there.
+    pub fn link_to(&mut self, host: &Name, port: u16) -> Option<MemLink>
+        ensures exact { IsDialed record { host = host.now; port = port } self.old self.new result }
         ensures fresh { IfSome result IsFresh }
     {
         match take_first(&mut self.links) {
             Some(link) => {
+                self.targets.push_reserved(Target::new(host, port));
                 self.lent += 1;
                 Some(link)
             }
@@ -98,6 +106,13 @@ impl MemCaller {
         }
     }
 
+    /// Where the link leads that was handed out at this place, counted from 0.
+    pub fn target_at(&self, place: usize) -> Option<&Target>
+        ensures { option_copied result ≡ slice_get self.now.targets place }
+    {
+        self.targets.get(place)
+    }
+
     /// How many faults there were, its own and those of links that came back.
     pub fn faults(&self) -> u64
         ensures { result ≡ self.now.faults }
@@ -117,12 +132,12 @@ pub fn take_first(links: &mut VecDeque<MemLink>) -> Option<MemLink>
     links.pop_front()
 }
 
-impl Dialer for MemCaller {
-    type Link = MemLink;
-
+impl Dialer<MemLink> for MemCaller {
     ghost use Rattle.std.specs.Prelude.{Some, map};
 
     ghost links = { λ caller. Some (map (λ w. w.left) caller.links) };
+
+    ghost targets = { λ caller. Some caller.targets };
 
     ghost sent = { λ caller. Some (map (λ w. w.held) caller.taken) };
 
@@ -130,8 +145,8 @@ impl Dialer for MemCaller {
 
     ghost count = { λ caller. caller.faults };
 
-    fn dial(&mut self, _host: &Name, _port: u16) -> Option<MemLink> {
-        self.next_link()
+    fn dial(&mut self, host: &Name, port: u16) -> Option<MemLink> {
+        self.link_to(host, port)
     }
 
     fn take_back(&mut self, link: MemLink) {

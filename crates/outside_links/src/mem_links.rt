@@ -1,12 +1,11 @@
-ghost use Rattle.std.specs.Prelude.{◌≡◌, ◌<◌, IfOk, Some, length, [], false};
+ghost use Rattle.std.specs.Prelude.{◌≡◌, ◌+◌, ◌<◌, IfOk, OnErr, Some, length, [], false};
 ghost use Rattle.ft_outside.specs.Outside.{IsFlushed, IsRead, IsWritten};
-ghost use Rattle.outside_schedules.specs.Counts.{schedule_of};
+ghost use Rattle.ft_outside.specs.Schedules.{schedule_of};
 ghost use Rattle.outside_links.specs.Wires.{IsReceived, IsSent, shut};
 
 use crate::links::Link;
 use ft_base::NoMemory;
-use ft_outside::{Flush, Got, Put, Sink, Source};
-use outside_schedules::Schedule;
+use ft_outside::{Flush, Got, Put, Schedule, Sink, Source, vec_of};
 use std::alloc::Global;
 use std::marker::Model;
 
@@ -37,10 +36,11 @@ impl MemLink {
     /// An open link with these bytes left and room for so many. `fails` are the numbers, from 1, of the reads and
     /// writes, counted together, that are to fail.
     pub fn new(alloc: Global, left: &[u8], room: u64, fails: &[u64]) -> Result<MemLink, NoMemory>
-        ensures { IfOk result (λ link. link ≡
+        ensures value { IfOk result (λ link. link ≡
             record { left = left.now; held = []; room = room; closed = false; schedule = schedule_of fails.now }) }
+        ensures some { OnErr result (0 < length left.now + room + length fails.now) }
     {
-        let bytes = Vec::from_slice(alloc, left)?;
+        let bytes = vec_of(alloc, left)?;
         let held = Vec::with_capacity(alloc, room as usize)?;
         let schedule = Schedule::new(alloc, fails)?;
         Ok(MemLink {

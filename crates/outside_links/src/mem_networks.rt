@@ -1,5 +1,5 @@
-ghost use Rattle.std.specs.Prelude.{◌≡◌, ◌∷◌, [], MatchOption, All, IfOk, IfSome, Some, map};
-ghost use Rattle.outside_schedules.specs.Counts.{schedule_of};
+ghost use Rattle.std.specs.Prelude.{◌≡◌, ◌<◌, ◌∷◌, [], length, MatchOption, All, IfOk, OnErr, IfSome, Some, map};
+ghost use Rattle.ft_outside.specs.Schedules.{schedule_of};
 ghost use Rattle.outside_links.specs.Wires.{IsAccepted, IsBound, IsFresh, IsNewDoor, IsNewCaller};
 ghost use Rattle.outside_links.specs.Lending.{IsCaller};
 
@@ -7,7 +7,7 @@ use crate::links::{Acceptor, Network};
 use crate::mem_callers::{MemCaller, take_first};
 use crate::mem_links::MemLink;
 use ft_base::NoMemory;
-use outside_schedules::{Schedule, add_counts, next_count};
+use ft_outside::{Schedule, add_counts, next_count};
 use std::alloc::Global;
 use std::collections::VecDeque;
 use std::marker::Model;
@@ -59,12 +59,12 @@ impl MemDoor {
     }
 }
 
-impl Acceptor for MemDoor {
-    type Link = MemLink;
-
+impl Acceptor<MemLink> for MemDoor {
     ghost use Rattle.std.specs.Prelude.{Some, map};
 
     ghost links = { λ door. Some (map (λ w. w.left) door.links) };
+
+    ghost own_port = { λ door. door.port };
 
     ghost count = { λ door. door.faults };
 
@@ -108,8 +108,9 @@ impl MemNetwork {
         fails: &[u64],
     ) -> Result<MemNetwork, NoMemory>
         requires { All IsNewDoor doors.items × All IsNewCaller callers.items }
-        ensures { IfOk result (λ network. network ≡
+        ensures value { IfOk result (λ network. network ≡
             record { doors = doors.items; callers = callers.items; schedule = schedule_of fails.now; broken = 0 }) }
+        ensures some { OnErr result (0 < length fails.now) }
     {
         let schedule = Schedule::new(alloc, fails)?;
         Ok(MemNetwork {
@@ -173,13 +174,7 @@ fn first_caller(alloc: Global, callers: &mut VecDeque<MemCaller>) -> MemCaller
     }
 }
 
-impl Network for MemNetwork {
-    type Link = MemLink;
-
-    type Door = MemDoor;
-
-    type Caller = MemCaller;
-
+impl Network<MemLink, MemDoor, MemCaller> for MemNetwork {
     ghost use Rattle.std.specs.Prelude.{Some, map};
 
     ghost callers = { λ network. Some (map (λ c. map (λ w. w.left) c.links) network.callers) };

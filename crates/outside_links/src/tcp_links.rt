@@ -2,15 +2,14 @@ ghost use Rattle.std.specs.Prelude.{◌≡◌, ◌<◌, true, false, None, lengt
 ghost use Rattle.ft_outside.specs.Outside.{IsRead, IsWritten};
 
 use crate::links::Link;
-use ft_outside::{Flush, Got, Put, Sink, Source};
-use outside_schedules::next_count;
+use ft_outside::{Flush, Got, Put, Sink, Source, next_count};
 use std::io::{Read, Write};
 use std::net::{Shutdown, TcpStream};
 
 /// A link over a socket of the system. It tells nothing of its content.
 #[derive(Drop)]
 pub struct TcpLink {
-    stream: TcpStream,
+    pub(crate) stream: TcpStream,
     is_closed: bool,
     faults: u64,
 }

@@ -1,10 +1,13 @@
-ghost use Rattle.std.specs.Prelude.{◌≡◌, IfOk, MatchOption, false};
+ghost use Rattle.std.specs.Prelude.{◌≡◌, IfOk, IfSome, MatchOption, false};
+ghost use Rattle.std.specs.declared.net.ipv4_addr.Ipv4Addr.{Ipv4Addr};
 ghost use Rattle.ft_outside.specs.Outside.{next_count};
+ghost use Rattle.outside_links.specs.Addresses.{IsAddressOf};
 
+use crate::hosts::peer_of;
 use crate::links::{Acceptor, Dialer, Network};
 use crate::tcp_links::TcpLink;
 use ft_base::Name;
-use outside_schedules::{add_counts, next_count};
+use ft_outside::{add_counts, next_count};
 use std::io;
 use std::net::{Ipv4Addr, Net, TcpListener, TcpStream};
 
@@ -33,12 +36,12 @@ impl TcpDoor {
     }
 }
 
-impl Acceptor for TcpDoor {
-    type Link = TcpLink;
-
+impl Acceptor<TcpLink> for TcpDoor {
     ghost use Rattle.std.specs.Prelude.{None};
 
     ghost links = { λ _. None };
+
+    ghost own_port = { λ door. door.port };
 
     ghost count = { λ door. door.faults };
 
@@ -57,30 +60,43 @@ impl Acceptor for TcpDoor {
     }
 }
 
-/// Dials ports of loopback, whatever the host is called.
+/// Dials hosts that are called by their IPv4 addresses, four numbers with dots between them, or `localhost`. A dial of
+/// any other is refused.
 #[derive(Drop)]
-pub struct TcpCaller<R: Net<Listener = TcpListener, Stream = TcpStream> + Send + Drop> {
+pub struct TcpCaller<R: Net<Listener = TcpListener, Stream = TcpStream> + Drop> {
     rt: R,
     faults: u64,
 }
 
-// A link to this port of loopback.
+// A link to this port of the host.
 fn dialed<R: Net<Listener = TcpListener, Stream = TcpStream>>(
     rt: &R,
+    host: &[u8],
     port: u16,
-) -> io::Result<TcpLink>
-    ensures { IfOk result (λ link. (link.faults ≡ 0) × (link.is_closed ≡ false)) }
+) -> Option<TcpLink>
+    ensures fresh { IfSome result (λ link. (link.faults ≡ 0) × (link.is_closed ≡ false)) }
+    ensures address { IfSome result (λ _. (address : Ipv4Addr) × IsAddressOf host.now address) }
 {
-    let stream = TcpStream::connect(rt, (Ipv4Addr::LOCALHOST, port))?;
-    link_over(stream)
+    let peer = peer_of(host, port)?;
+    let stream = TcpStream::connect(rt, peer).ok()?;
+    link_over(stream).ok()
 }
 
-impl<R: Net<Listener = TcpListener, Stream = TcpStream> + Send + Drop> Dialer for TcpCaller<R> {
-    type Link = TcpLink;
+impl<R: Net<Listener = TcpListener, Stream = TcpStream> + Drop> TcpCaller<R> {
+    /// How many faults there were, its own and those of links that came back.
+    pub fn faults(&self) -> u64
+        ensures { result ≡ self.now.faults }
+    {
+        self.faults
+    }
+}
 
+impl<R: Net<Listener = TcpListener, Stream = TcpStream> + Drop> Dialer<TcpLink> for TcpCaller<R> {
     ghost use Rattle.std.specs.Prelude.{None};
 
     ghost links = { λ _. None };
+
+    ghost targets = { λ _. None };
 
     ghost sent = { λ _. None };
 
@@ -88,10 +104,14 @@ impl<R: Net<Listener = TcpListener, Stream = TcpStream> + Send + Drop> Dialer fo
 
     ghost count = { λ caller. caller.faults };
 
-    fn dial(&mut self, _host: &Name, port: u16) -> Option<TcpLink> {
-        match dialed(&self.rt, port) {
-            Ok(link) => Some(link),
-            Err(_) => {
+    fn dial(&mut self, host: &Name, port: u16) -> Option<TcpLink>
+        ensures fresh { IfSome result (λ link. (link.faults ≡ 0) × (link.is_closed ≡ false)) }
+        ensures address { IfSome result (λ _. (address : Ipv4Addr) × IsAddressOf host.now address) }
+        ensures faults { MatchOption result (self.new.faults ≡ next_count self.old.faults) (λ _. self.new.faults ≡ self.old.faults) }
+    {
+        match dialed(&self.rt, host.bytes(), port) {
+            Some(link) => Some(link),
+            None => {
                 self.faults = next_count(self.faults);
                 None
             }
@@ -105,7 +125,7 @@ impl<R: Net<Listener = TcpListener, Stream = TcpStream> + Send + Drop> Dialer fo
 
 /// The network of loopback, over sockets of the system, which send small writes without delay.
 #[derive(Drop)]
-pub struct TcpNetwork<R: Net<Listener = TcpListener, Stream = TcpStream> + Copy + Send + Drop> {
+pub struct TcpNetwork<R: Net<Listener = TcpListener, Stream = TcpStream> + Copy + Drop> {
     rt: R,
     faults: u64,
     broken: u64,
@@ -127,7 +147,7 @@ fn opened<R: Net<Listener = TcpListener, Stream = TcpStream>>(
     })
 }
 
-impl<R: Net<Listener = TcpListener, Stream = TcpStream> + Copy + Send + Drop> TcpNetwork<R> {
+impl<R: Net<Listener = TcpListener, Stream = TcpStream> + Copy + Drop> TcpNetwork<R> {
     /// Doors at free ports.
     pub fn new(rt: R) -> TcpNetwork<R>
         ensures faults { result.faults ≡ 0 }
@@ -156,14 +176,11 @@ impl<R: Net<Listener = TcpListener, Stream = TcpStream> + Copy + Send + Drop> Tc
     }
 }
 
-impl<R: Net<Listener = TcpListener, Stream = TcpStream> + Copy + Send + Drop + 'static> Network
-    for TcpNetwork<R> {
-    type Link = TcpLink;
-
-    type Door = TcpDoor;
-
-    type Caller = TcpCaller<R>;
-
+impl<R: Net<Listener = TcpListener, Stream = TcpStream> + Copy + Drop> Network<
+    TcpLink,
+    TcpDoor,
+    TcpCaller<R>,
+> for TcpNetwork<R> {
     ghost use Rattle.std.specs.Prelude.{None};
 
     ghost callers = { λ _. None };

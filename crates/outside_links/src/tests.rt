@@ -1,13 +1,22 @@
 use crate::{
     Acceptor, Dialer, Link, MemCaller, MemDoor, MemLink, MemNetwork, Network, TcpLink, TcpNetwork,
+    send_all,
 };
 use ft_base::{Name, NoMemory};
-use ft_outside::{Got, Put, WholeWrite, write_all};
+use ft_outside::{Got, Put, WholeWrite};
 use std::alloc::Global;
 use std::collections::VecDeque;
+use std::io;
+use std::io::Read;
+use std::net::{Ipv4Addr, Shutdown, TcpStream};
+use std::thread::{Threads, join};
 
 fn localhost(alloc: Global) -> Result<Name, NoMemory> {
-    match Name::of(alloc, b"localhost") {
+    named(alloc, b"localhost")
+}
+
+fn named(alloc: Global, text: &[u8; 9]) -> Result<Name, NoMemory> {
+    match Name::of(alloc, text) {
         Ok(name) => Ok(name),
         Err(_) => Err(NoMemory),
     }
@@ -35,8 +44,8 @@ fn come<L: Link>(link: &mut L, count: usize) -> usize {
 
 // Whether a piece goes from one end to the other, and comes back.
 fn goes_both_ways<L: Link>(near: &mut L, far: &mut L, piece: &[u8]) -> bool {
-    let there = write_all(near, piece) == WholeWrite::All && come(far, piece.len()) == piece.len();
-    let back = write_all(far, piece) == WholeWrite::All && come(near, piece.len()) == piece.len();
+    let there = send_all(near, piece) == WholeWrite::All && come(far, piece.len()) == piece.len();
+    let back = send_all(far, piece) == WholeWrite::All && come(near, piece.len()) == piece.len();
     there && back
 }
 
@@ -52,6 +61,7 @@ fn pieces_pass_over_loopback(rt: HostRuntime) -> Result<(), NoMemory> {
         let near = caller.dial(&name, door.port());
         let far = door.accept();
         if let (Some(mut near), Some(mut far)) = (near, far) {
+            assert!(rt; near.stream.nodelay().unwrap_or(false));
             for size in PIECES {
                 for _ in 0..16 {
                     assert!(rt;
@@ -68,8 +78,11 @@ fn pieces_pass_over_loopback(rt: HostRuntime) -> Result<(), NoMemory> {
     Ok(())
 }
 
-// Two ends of a link over loopback.
-fn ends<N: Network<Link = TcpLink>>(network: &mut N, name: &Name) -> Option<(TcpLink, TcpLink)> {
+// Two ends of a link.
+fn ends<L: Link, A: Acceptor<L>, D: Dialer<L>, N: Network<L, A, D>>(
+    network: &mut N,
+    name: &Name,
+) -> Option<(L, L)> {
     let mut door = network.bind()?;
     let mut caller = network.caller();
     let near = caller.dial(name, door.port())?;
@@ -107,6 +120,66 @@ fn peers_close_and_reset(rt: HostRuntime) -> Result<(), NoMemory> {
         drop(far);
         assert_eq!(rt; near.receive(&mut into), Got::Failed);
         assert_eq!(rt; near.faults(), 1);
+    }
+    Ok(())
+}
+
+// What is dialled in one thread and accepted in another.
+fn ends_in_threads<R: Threads + Sync, L: Link + Send, A: Acceptor<L> + Send, D: Dialer<L> + Send>(
+    rt: &R,
+    mut door: A,
+    mut caller: D,
+    name: &Name,
+) -> (Option<L>, Option<L>) {
+    let port = door.port();
+    join(rt, move || caller.dial(name, port), move || door.accept())
+}
+
+#[test]
+fn doors_and_callers_go_to_threads(rt: HostRuntime) -> Result<(), NoMemory> {
+    let name = named(rt.alloc(), b"127.0.0.1")?;
+    let mut network = TcpNetwork::new(rt);
+    let caller = network.caller();
+    if let Some(door) = network.bind() {
+        if let (Some(mut near), Some(mut far)) = ends_in_threads(&rt, door, caller, &name) {
+            assert!(rt; goes_both_ways(&mut near, &mut far, &[7]));
+        }
+    }
+    Ok(())
+}
+
+#[test]
+fn a_host_that_is_no_address_is_not_dialled(rt: HostRuntime) -> Result<(), NoMemory> {
+    let name = named(rt.alloc(), b"localh0st")?;
+    let mut network = TcpNetwork::new(rt);
+    let mut caller = network.caller();
+    if let Some(door) = network.bind() {
+        assert!(rt; caller.dial(&name, door.port()).is_none());
+        assert_eq!(rt; caller.faults(), 1);
+    }
+    Ok(())
+}
+
+#[test]
+fn a_link_is_closed_both_ways_and_a_peer_may_end_one(rt: HostRuntime) -> io::Result<()> {
+    let mut into = [0u8; 4];
+    let mut network = TcpNetwork::new(rt);
+    if let Some(mut door) = network.bind() {
+        let stream = TcpStream::connect(&rt, (Ipv4Addr::LOCALHOST, door.port()))?;
+        if let Some(mut far) = door.accept() {
+            assert!(rt; far.stream.nodelay()?);
+            // the peer says that it sends no more, and still reads
+            stream.shutdown(Shutdown::Write)?;
+            assert_eq!(rt; far.receive(&mut into), Got::End);
+            assert_eq!(rt; far.send(b"abc"), Put::Took(3));
+            let mut near = TcpLink::new(stream);
+            assert_eq!(rt; near.receive(&mut into), Got::Bytes(3));
+            // what is closed has nothing more to read, and doesn't wait for it
+            far.close();
+            far.stream.set_nonblocking(true)?;
+            assert_eq!(rt; far.stream.read(&mut into)?, 0);
+            assert_eq!(rt; near.receive(&mut into), Got::End);
+        }
     }
     Ok(())
 }
@@ -203,6 +276,11 @@ fn networks_in_memory_hand_out_what_they_have(rt: HostRuntime) -> Result<(), NoM
     // one fault of the link, one of the dial
     assert_eq!(rt; caller.faults(), 2);
     assert_eq!(rt; caller.sent_at(0), Some(b"ab".as_slice()));
+    if let Some(target) = caller.target_at(0) {
+        assert_eq!(rt; target.host(), b"localhost".as_slice());
+        assert_eq!(rt; target.port(), 80);
+    }
+    assert!(rt; caller.target_at(1).is_none());
     assert!(rt; caller.sent_at(1).is_none());
     network.take_caller(caller);
     assert!(rt; network.caller().dial(&name, 80).is_none());

@@ -18,18 +18,20 @@ use Rattle.message_log.specs.Admission.{admitted as log_admitted}
 use Rattle.message_log.specs.Calls.{kept, with_entry, with_outcome, accepted_by}
 use Rattle.log_records.specs.Records.{entry_record}
 use Rattle.message_log.specs.Picture.{Picture as LogPicture, Reserved, length_of, request_at}
-use Rattle.message_log.specs.declared.answers.Admit.{Admit}
 use Rattle.message_log.specs.declared.answers.Admit.TheVariants as admits
 use Rattle.ft_replica.specs.Picture.{Picture as ReplicaPicture, one_further, blanked}
 use Rattle.group_model.specs.declared.events.GroupAnswer.TheVariants.{Reply}
-use Rattle.group_model.specs.Admissions.{Admission, Same, New, admission}
+use Rattle.ft_base.specs.Admissions.{admission}
+use Rattle.ft_base.specs.declared.admissions.Admission.{Admission}
+use Rattle.ft_base.specs.declared.admissions.Admission.TheVariants.{Same, New}
 use Rattle.group_model.specs.Plain.{Common, Host, Place, nowhere, with_ran}
 use Rattle.group_model.specs.Serving.{joined, accepted, admitted, served, orders, repeated}
 use Rattle.group_model.specs.Turns.{Turn, unchanged}
 use Rattle.group_stands.specs.Stands.{LogStands, ReplicaStands}
 use Rattle.group_stands.specs.Going.{HasRun, EntriesRun, BlanksStand, LogsGoOnBeside, ReplicasGoOnJoined, RequestsJoin}
-use Rattle.group_stands.specs.Telling.{LogsAdmit, CaughtUpHasRun, CaughtUpRepeats, IsSaid}
-use Rattle.passive_dispatch.specs.Served.{Seen, CanServe, CanRun, HasJoined, IsTurn, IsUnrun, IsRun, IsServed, IsTold, IsWritten, IsWrittenAs, IsDecided, shows_fault, calls_by}
+use Rattle.group_stands.specs.Telling.{LogsAdmit, CaughtUpHasRun, CaughtUpRepeats}
+use Rattle.passive_dispatch.specs.Served.{Seen, alone, CanServe, CanRun, HasJoined, IsTurn, IsUnrun, IsRun, IsServed, IsTold, IsWritten, IsWrittenAs, IsDecided, shows_fault, calls_by}
+use Rattle.passive_dispatch.specs.declared.serving.Replied.{Replied}
 use Rattle.passive_dispatch.specs.declared.serving.Served.{Served}
 use Rattle.passive_dispatch.specs.declared.serving.Served.TheVariants.{Done, NoMemory}
 
@@ -69,29 +71,31 @@ module _ (joining : ReplicasGoOnJoined) (blanks : BlanksStand) (machines : ℕ �
 
   pub not_run : (h : Host) (host : ℕ) (before now : Seen) (position : ℕ) → HasJoined machines c h.place clock request before → position ≡ length c.journal →
       now.log ≡ before.log → now.replica ≡ blanked before.replica → now.steps ≡ before.steps →
-      IsTurn machines (accepted (machines c.kind) c h host (max clock c.time) request AfterAppend) (decisions.Append position) None before.steps now
+      IsTurn machines (accepted (machines c.kind) c h host (max clock c.time) request AfterAppend) (alone (decisions.Append position) None) before.steps now
   not_run h host before now position has at log replica steps = record {
     log = subst (LogStands machines after) (sym log) has.log;
     replica = blank_of c.kind before.replica now.replica after replica has.replica.kind refl;
     out = [];
     told = ap (λ (n : ℕ). Reply (decisions.Append n) None []) (sym at);
+    none = refl;
     calls = omega (arith, steps);
   }
 
   pub run_and_stopped : (h : Host) (host : ℕ) (before now : Seen) (replica : ReplicaPicture) (position : ℕ) (outcome : Outcome) → HasJoined machines c h.place clock request before → position ≡ length c.journal →
       HasRun machines after h.place outcome now.log replica → now.replica ≡ blanked replica → now.steps ≡ before.steps + 1 →
-      IsTurn machines (accepted (machines c.kind) c h host (max clock c.time) request AfterExecute) (decisions.Append position) None before.steps now
+      IsTurn machines (accepted (machines c.kind) c h host (max clock c.time) request AfterExecute) (alone (decisions.Append position) None) before.steps now
   run_and_stopped h host before now replica position outcome has at ran is steps = record {
     log = subst (λ (n : ℕ). LogStands machines (with_ran (n + 1) after) now.log) has.caught_up.end ran.log;
     replica = blank_of c.kind replica now.replica (with_ran (length c.journal + 1) after) is ran.replica.kind refl;
     out = [];
     told = ap (λ (n : ℕ). Reply (decisions.Append n) None []) (sym at);
+    none = refl;
     calls = steps;
   }
 
   pub run_and_told : (h : Host) (host : ℕ) (before now : Seen) (position : ℕ) (outcome : Outcome) → HasJoined machines c h.place clock request before → position ≡ length c.journal →
       HasRun machines after h.place outcome now.log now.replica → now.steps ≡ before.steps + 1 →
-      IsTurn machines (accepted (machines c.kind) c h host (max clock c.time) request Never) (decisions.Append position) (Some (Answered outcome)) before.steps now
+      IsTurn machines (accepted (machines c.kind) c h host (max clock c.time) request Never) (alone (decisions.Append position) (Some (Answered outcome))) before.steps now
   run_and_told h host before now position outcome has at ran steps =
       let out = orders c host (length c.journal) request in
       let reply : reply_at (machines c.kind) c.opening after.journal (length c.journal) ≡ outcome =
@@ -103,6 +107,7 @@ module _ (joining : ReplicasGoOnJoined) (blanks : BlanksStand) (machines : ℕ �
         told =
             ap (λ (n : ℕ). Reply (decisions.Append n) (Some (Answered (reply_at (machines c.kind) c.opening after.journal (length c.journal)))) out) (sym at)
             ∙ ap (λ (o : Outcome). Reply (decisions.Append position) (Some (Answered o)) out) reply;
+        none = refl;
         calls = steps;
       }
 
@@ -122,41 +127,43 @@ turn_of machines c h host clock request stop fails a = admitted (machines c.kind
 
 pub turns_told : (machines : ℕ → Machine) (c : Common) (h : Host) (host version clock : ℕ) (request : Request) (stop : Stop) (fails : Bool) (now : Seen) (a : Admission) (d : Decision) (x : Option Answer) →
     CanServe machines c h.place version request now → admission c.journal (max clock c.time) request ≡ a →
-    turn_of machines c h host clock request stop fails a ≡ unchanged c h (Reply d x []) → IsTurn machines (served (machines c.kind) c h host clock request stop fails) d x now.steps now
+    turn_of machines c h host clock request stop fails a ≡ unchanged c h (Reply d x []) → IsTurn machines (served (machines c.kind) c h host clock request stop fails) (alone d x) now.steps now
 turns_told machines c h host version clock request stop fails now a d x can is tells =
-    subst (λ (t : Turn). IsTurn machines t d x now.steps now)
+    subst (λ (t : Turn). IsTurn machines t (alone d x) now.steps now)
     (sym (ap (turn_of machines c h host clock request stop fails) is ∙ tells))
-    (record { log = can.log; replica = can.replica; out = []; told = refl; calls = omega arith })
+    (record { log = can.log; replica = can.replica; out = []; told = refl; none = refl; calls = omega arith })
+
+admission_is : (x y : Admission) → admits.Admission x ≡ admits.Admission y → x ≡ y
+admission_is x y h = cc
 
 -- what the log says, the plain group says
-pub says : LogsAdmit → (machines : ℕ → Machine) (c : Common) (place : Place) (version clock : ℕ) (request : Request) (now : Seen) (a : Admit) → CanServe machines c place version request now →
-    a ≡ log_admitted now.log version clock request → IsSaid (admission c.journal (max clock c.time) request) request.key (max clock c.time) a
+pub says : LogsAdmit → (machines : ℕ → Machine) (c : Common) (place : Place) (version clock : ℕ) (request : Request) (now : Seen) (a : Admission) → CanServe machines c place version request now →
+    admits.Admission a ≡ log_admitted now.log version clock request → admission c.journal (max clock c.time) request ≡ a
 says law machines c place version clock request now a can is =
-    subst (IsSaid (admission c.journal (max clock c.time) request) request.key (max clock c.time)) (sym is) (law machines c now.log can.log version clock request can.newest)
+    sym (admission_is a (admission c.journal (max clock c.time) request) (is ∙ law machines c now.log can.log version clock request can.newest))
 
 -- ---- an entry that is repeated
 
 -- its reply is there
 pub repeat_reply : LogsAdmit → CaughtUpRepeats → (machines : ℕ → Machine) (c : Common) (place : Place) (version clock : ℕ) (request : Request) (now : Seen) (i : ℕ) →
-    CanServe machines c place version request now → admits.Same i ≡ log_admitted now.log version clock request →
+    CanServe machines c place version request now → admits.Admission (Same i) ≡ log_admitted now.log version clock request →
     reply_of now.log.table i ≡ Some (reply_at (machines c.kind) c.opening c.journal i)
 repeat_reply law repeats machines c place version clock request now i can is =
     repeats machines c now.log now.replica place can.log can.replica can.caught_up clock i request
-    (says law machines c place version clock request now (admits.Same i) can is)
+    (says law machines c place version clock request now (Same i) can is)
 
 pub repeat_told : (machines : ℕ → Machine) (c : Common) (h : Host) (host version clock : ℕ) (request : Request) (stop : Stop) (now : Seen) (i : ℕ) (s : Served) →
     CanServe machines c h.place version request now → admission c.journal (max clock c.time) request ≡ Same i →
     IsTold (decisions.Repeat i) (Some (repeated (machines c.kind) c i)) s → IsServed machines c h host clock request stop s now now
 repeat_told machines c h host version clock request stop now i NoMemory can is tells = inl refl
-repeat_told machines c h host version clock request stop now i (Done d x) can is tells =
-    subst (λ (e : Decision). IsTurn machines (served (machines c.kind) c h host clock request stop (shows_fault e)) e x now.steps now) (sym tells.0)
-    (subst (λ (y : Option Answer). IsTurn machines (served (machines c.kind) c h host clock request stop false) (decisions.Repeat i) y now.steps now) (sym tells.1)
-    (turns_told machines c h host version clock request stop false now (Same i) (decisions.Repeat i) (Some (repeated (machines c.kind) c i)) can is refl))
+repeat_told machines c h host version clock request stop now i (Done replied) can is tells =
+    subst (λ (r : Replied). IsTurn machines (served (machines c.kind) c h host clock request stop (shows_fault r.decision)) r now.steps now) (sym tells)
+    (turns_told machines c h host version clock request stop false now (Same i) (decisions.Repeat i) (Some (repeated (machines c.kind) c i)) can is refl)
 
 pub repeat_written : (i : ℕ) (x : Option Answer) (s : Served) (log : LogPicture) (version : Version) (clock : Tick) (request : Request) →
     IsTold (decisions.Repeat i) x s → IsWritten s log version clock request log
 repeat_written i x NoMemory log version clock request tells = inl refl
-repeat_written i x (Done d y) log version clock request tells = subst (λ (e : Decision). IsWrittenAs e log version clock request log) (sym tells.0) refl
+repeat_written i x (Done replied) log version clock request tells = subst (λ (r : Replied). IsWrittenAs r.decision log version clock request log) (sym tells) refl
 
 -- ---- a new request
 
@@ -171,7 +178,7 @@ with_kept log version clock request =
 
 pub has_joined : LogsGoOnBeside → RequestsJoin → CaughtUpHasRun → (machines : ℕ → Machine) (c : Common) (place : Place) (version : Version) (clock : Tick) (request : Request)
     (now : Seen) (reserved after : LogPicture) (r : Option Reserved) → CanServe machines c place version.0 request now →
-    log_admitted now.log version.0 clock.0 request ≡ admits.New → Reserves now.log reserved r → after ≡ with_kept reserved version clock request →
+    log_admitted now.log version.0 clock.0 request ≡ admits.Admission New → Reserves now.log reserved r → after ≡ with_kept reserved version clock request →
     HasJoined machines c place clock.0 request (record now { log = after })
 has_joined beside joins runs machines c place version clock request now reserved after r can new holds is =
     let log = now.log in
@@ -196,8 +203,9 @@ pub new_served : (machines : ℕ → Machine) (c : Common) (h : Host) (host cloc
     IsRun machines c h host clock request stop s middle now → IsServed machines c h host clock request stop s before now
 new_served machines c h host clock position request stop NoMemory before middle now new steps decided ran =
     inr (new, subst (λ (n : ℕ). IsUnrun machines c clock request stop n now) steps ran)
-new_served machines c h host clock position request stop (Done d x) before middle now new steps decided ran =
+new_served machines c h host clock position request stop (Done replied) before middle now new steps decided ran =
+    let d = replied.decision in
     let no : shows_fault d ≡ false = ap shows_fault decided in
     let turn : served (machines c.kind) c h host clock request stop (shows_fault d) ≡ accepted (machines c.kind) c h host (max clock c.time) request stop =
     ap (λ (b : Bool). served (machines c.kind) c h host clock request stop b) no ∙ ap (turn_of machines c h host clock request stop false) new in
-    subst (λ (t : Turn). IsTurn machines t d x before.steps now) (sym turn) (subst (λ (n : ℕ). IsTurn machines (accepted (machines c.kind) c h host (max clock c.time) request stop) d x n now) steps ran)
+    subst (λ (t : Turn). IsTurn machines t replied before.steps now) (sym turn) (subst (λ (n : ℕ). IsTurn machines (accepted (machines c.kind) c h host (max clock c.time) request stop) replied n now) steps ran)

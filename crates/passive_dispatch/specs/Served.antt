@@ -15,15 +15,19 @@ use Rattle.sys_faults.specs.declared.answers.Answer.{Answer}
 use Rattle.log_records.specs.Records.{entry_record}
 use Rattle.message_log.specs.Calls.{kept, accepted_by}
 use Rattle.message_log.specs.Picture.{Picture as LogPicture}
+use Rattle.message_log.specs.declared.answers.Admit.{Admit}
+use Rattle.message_log.specs.declared.answers.Admit.TheVariants as admits
 use Rattle.ft_replica.specs.Picture.{Picture as ReplicaPicture}
 use Rattle.group_model.specs.declared.events.GroupAnswer.TheVariants.{Reply}
 use Rattle.group_model.specs.declared.events.Out.{Out}
-use Rattle.group_model.specs.Admissions.{admission, New}
+use Rattle.ft_base.specs.Admissions.{admission}
+use Rattle.ft_base.specs.declared.admissions.Admission.TheVariants.{Same, New}
 use Rattle.group_model.specs.Plain.{Common, Host, Place, nowhere}
 use Rattle.group_model.specs.Serving.{joined, accepted, served}
 use Rattle.group_model.specs.Turns.{Turn}
 use Rattle.group_model.specs.Views.{newest}
 use Rattle.group_stands.specs.Stands.{LogStands, ReplicaStands, IsCaughtUp}
+use Rattle.passive_dispatch.specs.declared.serving.Replied.{Replied}
 use Rattle.passive_dispatch.specs.declared.serving.Served.{Served}
 use Rattle.passive_dispatch.specs.declared.serving.Served.TheVariants.{Done, NoMemory}
 
@@ -50,12 +54,17 @@ pub record CanServe (machines : ℕ → Machine) (c : Common) (place : Place) (v
 
 -- ---- a turn
 
--- Log, replica, decision, answer and servant calls are a turn's. What it sends isn't seen here.
-pub record IsTurn (machines : ℕ → Machine) (t : Turn) (decision : Decision) (answer : Option Answer) (before : ℕ) (now : Seen) : Type 0 where
+-- a decision and an answer with which nothing is sent
+abbrev pub alone : Decision → Option Answer → Replied
+alone decision answer = record { decision = decision; answer = answer; out = [] }
+
+-- Log, replica, decision, answer and servant calls are a turn's. What it sends isn't there yet.
+pub record IsTurn (machines : ℕ → Machine) (t : Turn) (replied : Replied) (before : ℕ) (now : Seen) : Type 0 where
   pub log : LogStands machines t.common now.log
   pub replica : ReplicaStands machines t.common now.replica t.host.place
   pub out : List Out
-  pub told : t.answer ≡ Reply decision answer out
+  pub told : t.answer ≡ Reply replied.decision replied.answer out
+  pub none : replied.out ≡ []
   pub calls : now.steps ≡ before + t.calls
 
 -- how often the servant is called for a request that joins, by where its host stops
@@ -78,15 +87,15 @@ shows_fault other = false
 -- The request had the plain group's turn; or memory was wanted, and all is as before, or it was new and joined
 -- unrun.
 abbrev pub IsServed : (ℕ → Machine) → Common → Host → ℕ → ℕ → Request → Stop → Served → Seen → Seen → Type 0
-IsServed machines c h host clock request stop (Done decision answer) before now =
-    IsTurn machines (served (machines c.kind) c h host clock request stop (shows_fault decision)) decision answer before.steps now
+IsServed machines c h host clock request stop (Done replied) before now =
+    IsTurn machines (served (machines c.kind) c h host clock request stop (shows_fault replied.decision)) replied before.steps now
 IsServed machines c h host clock request stop NoMemory before now =
     (now ≡ before) ⊎ ((admission c.journal (max clock c.time) request ≡ New) × IsUnrun machines c clock request stop before.steps now)
 
 -- the same of a request that has joined the journal
 abbrev pub IsRun : (ℕ → Machine) → Common → Host → ℕ → ℕ → Request → Stop → Served → Seen → Seen → Type 0
-IsRun machines c h host clock request stop (Done decision answer) before now =
-    IsTurn machines (accepted (machines c.kind) c h host (max clock c.time) request stop) decision answer before.steps now
+IsRun machines c h host clock request stop (Done replied) before now =
+    IsTurn machines (accepted (machines c.kind) c h host (max clock c.time) request stop) replied before.steps now
 IsRun machines c h host clock request stop NoMemory before now = IsUnrun machines c clock request stop before.steps now
 
 -- it is the journal's last entry, which nobody has run, and the replica has run all before it
@@ -106,14 +115,25 @@ pub record CanRun (machines : ℕ → Machine) (c : Common) (place : Place) (its
 
 -- ---- what is told
 
--- this is answered, unless memory is wanted
+-- this is answered and nothing is sent, unless memory is wanted
 abbrev pub IsTold : Decision → Option Answer → Served → Type 0
-IsTold decision answer (Done d a) = (d ≡ decision) × (a ≡ answer)
+IsTold decision answer (Done replied) = replied ≡ alone decision answer
 IsTold decision answer NoMemory = Unit {0}
 
 abbrev pub IsDecided : Decision → Served → Type 0
-IsDecided decision (Done d a) = d ≡ decision
+IsDecided decision (Done replied) = replied.decision ≡ decision
 IsDecided decision NoMemory = Unit {0}
+
+-- memory was wanted, so this holds
+abbrev pub IfNoMemory : Served → Type 0 → Type 0
+IfNoMemory (Done replied) P = Unit {0}
+IfNoMemory NoMemory P = P
+
+-- Memory is taken for the copy of a repeat's reply, and for a request that is new.
+abbrev pub TakesMemory : Admit → Type 0
+TakesMemory (admits.Admission (Same i)) = Unit {0}
+TakesMemory (admits.Admission New) = Unit {0}
+TakesMemory other = ⊥
 
 -- ---- what the keeper did
 
@@ -135,5 +155,5 @@ IsWrittenAs decisions.LogFault old version clock request new = IsFailed old new
 IsWrittenAs other old version clock request new = new ≡ old
 
 abbrev pub IsWritten : Served → LogPicture → Version → Tick → Request → LogPicture → Type 0
-IsWritten (Done decision answer) old version clock request new = IsWrittenAs decision old version clock request new
+IsWritten (Done replied) old version clock request new = IsWrittenAs replied.decision old version clock request new
 IsWritten NoMemory old version clock request new = (new ≡ old) ⊎ IsKept old version clock request new

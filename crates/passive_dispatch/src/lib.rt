@@ -5,4 +5,4 @@
 mod running;
 mod serving;
 
-pub use serving::{Served, serve};
+pub use serving::{Arrival, Replied, Served, serve};

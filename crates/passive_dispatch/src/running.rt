@@ -5,7 +5,7 @@ ghost use Rattle.group_model.specs.Plain.{Common, Host, Place};
 ghost use Rattle.group_stands.specs.Going.{HasRun};
 ghost use Rattle.passive_dispatch.specs.Served.{seen, CanRun, HasJoined, IsRun, IsDecided};
 
-use crate::serving::Served;
+use crate::serving::{Served, done};
 use ft_base::{Decision, NoMemory, Outcome, Servant, Steps, Stop};
 use ft_outside::Keeper;
 use ft_replica::Replica;
@@ -72,27 +72,18 @@ pub(crate) fn run_joined<K: Keeper, S: Servant + Drop, L: Ledger>(
     match stop {
         Stop::AfterAppend => {
             replica.blank();
-            Served::Done {
-                decision,
-                answer: None,
-            }
+            done(alloc, decision, None)
         }
         Stop::AfterExecute => {
             let ran = run_next(alloc, log, replica, steps);
             replica.blank();
             match ran {
-                Ok(_outcome) => Served::Done {
-                    decision,
-                    answer: None,
-                },
+                Ok(_outcome) => done(alloc, decision, None),
                 Err(NoMemory) => Served::NoMemory,
             }
         }
         Stop::Never => match run_next(alloc, log, replica, steps) {
-            Ok(outcome) => Served::Done {
-                decision,
-                answer: Some(Answer::Done(outcome)),
-            },
+            Ok(outcome) => done(alloc, decision, Some(Answer::Done(outcome))),
             Err(NoMemory) => {
                 replica.blank();
                 Served::NoMemory

@@ -8,7 +8,7 @@ ghost use Rattle.property_manager.specs.Hosts.{factories, hosts_from, is_comma, 
 
 use crate::numbers::{behind, bounded, front};
 use arrayvec::ArrayVec;
-use ft_base::{HOST_LIMIT, HostNo};
+use ft_base::{HOST_LIMIT, HostNo, has_host};
 use std::marker::Model;
 
 /// Different hosts, in the order in which a value has them.
@@ -65,7 +65,7 @@ impl Hosts {
     pub fn has(&self, host: HostNo) -> bool
         ensures { result ≡ is_member host.0 self.now }
     {
-        self.hosts.as_slice().iter().any(|other| *other == host.0)
+        has_host(self.hosts.as_slice(), host)
     }
 
     /// The host numbers, in order.

@@ -1,9 +1,9 @@
 -- The entries that stand in the map, filed by their ids, and the same entries as a list.
-use Rattle.std.proofs.Common.{◌≡◌, ℕ, ◌<◌, ◌≤◌, Bool, true, false, cond, true≢false, not, List, [], ◌∷◌, ◌++◌, length, Option, Some, None, Vec, refl, sym, ap, subst, ◌∙◌, arith, take, drop}
-use Rattle.std.specs.Prelude.{◌&&◌, ◌==◌, nat_eq, nat_lt}
+use Rattle.std.proofs.Common.{◌≡◌, ℕ, Bool, true, false, cond, true≢false, not, List, [], ◌∷◌, ◌++◌, Option, Some, None, Vec, refl, sym, ap, ◌∙◌, take, drop}
+use Rattle.std.specs.Prelude.{◌&&◌, nat_eq, nat_lt}
 use Rattle.std.specs.Int.{w32, to_be_bytes, from_be_bytes, cast_unsigned, cast_signed}
-use Rattle.std.specs.Cmp.Lexicographic.{pointwise, bytes_decides, same_text, other_text}
-use Rattle.std.specs.List.{AllByRecursion, IsDistinct, filter, find}
+use Rattle.std.specs.Cmp.Lexicographic.{pointwise, bytes_decides, same_text}
+use Rattle.std.specs.List.{AllByRecursion, IsDistinct, filter}
 use Rattle.std.specs.Map.{keys_of, values_of, lookup, remove_entry}
 use Rattle.std.specs.Ordering.{int_eq}
 use Rattle.std.specs.Str.{bytes_eq}
@@ -13,10 +13,9 @@ use Rattle.std.proofs.lemmas.Map.Entries.{option_filter}
 use Rattle.std.proofs.lemmas.Map.Keys.{IsDistinct-head, IsDistinct-tail}
 use Rattle.std.proofs.lemmas.Nat.{from_be_bytes-to_be_bytes_4}
 use Rattle.std.proofs.lemmas.Slice.Eq.{bytes_eq-Decides}
-use Rattle.ft_base.specs.Journal.{is_held_by}
-use Rattle.ft_base.specs.declared.numbers.Retention.{Retention}
+use Rattle.ft_base.specs.Journal.{is_held_by, is_call, is_unexpired}
 use Rattle.ft_base.specs.declared.requests.Key.{Key}
-use Rattle.reply_table.specs.Entries.{holder, is_call, without}
+use Rattle.reply_table.specs.Entries.{holder}
 use Rattle.reply_table.specs.Ids.{id_of, IsFiledBy, IsFiledAs, AreFiled}
 use Rattle.reply_table.specs.declared.entries.Retained.{Retained}
 
@@ -76,6 +75,11 @@ call_of_held : (now : ℕ) (key : Key) (other : Option Key) → is_held_by now k
 call_of_held now key None h = absurd (true≢false (sym h))
 call_of_held now key (Some other) h = (both_true (is_call key (Some other)) (nat_lt now other.expiration.0) h).0
 
+-- of the same call, an entry holds the retention id while it is unexpired
+held_is_unexpired : (now : ℕ) (key : Key) (other : Option Key) → is_call key other ≡ true → is_held_by now key other ≡ is_unexpired now other
+held_is_unexpired now key None h = refl
+held_is_unexpired now key (Some other) h = ap (λ b. b && nat_lt now other.expiration.0) h
+
 -- ---- at most one entry is of a call
 
 later_ids : {A : Type 0} (id : List ℕ) (k : Vec ℕ A) (es : List (Row A)) → id ≡ k.items → AllByRecursion (λ y. same_ids k y ≡ false) (keys_of es) → NonePasses (with_id id) es
@@ -97,16 +101,21 @@ module _ {A : Type 0} (key : Key) (id : List ℕ) (filed : IsFiledBy id key) whe
       go rest false h = rest
 
   pub holder_by_id : (now : ℕ) (es : List (Row A)) → AreFiled es → IsDistinct same_ids (keys_of es)
-      → holder (values_of es) key now ≡ option_filter (λ r. is_held_by now key r.request.key) (lookup (with_id id) es)
+      → holder (values_of es) key now ≡ option_filter (λ r. is_unexpired now r.request.key) (lookup (with_id id) es)
   holder_by_id now [] fs distinct = refl
   holder_by_id now (e ∷ es) fs distinct =
       go (holder_by_id now es fs.1 (IsDistinct-tail same_ids e.0 (keys_of es) distinct)) (with_id id e.0) refl (is_held_by now key e.1.request.key) refl
     where
-      go : holder (values_of es) key now ≡ option_filter (λ r. is_held_by now key r.request.key) (lookup (with_id id) es)
+      unexpired_is : (h : Bool) → with_id id e.0 ≡ true → is_held_by now key e.1.request.key ≡ h → is_unexpired now e.1.request.key ≡ h
+      unexpired_is h u is =
+          sym (held_is_unexpired now key e.1.request.key (sym (id_is_call key id e.0.items e.1.request.key filed fs.0) ∙ u)) ∙ is
+
+      go : holder (values_of es) key now ≡ option_filter (λ r. is_unexpired now r.request.key) (lookup (with_id id) es)
           → (t : Bool) → with_id id e.0 ≡ t → (h : Bool) → is_held_by now key e.1.request.key ≡ h
-          → cond h (Some e.1) (holder (values_of es) key now) ≡ option_filter (λ r. is_held_by now key r.request.key) (cond t (Some e.1) (lookup (with_id id) es))
-      go rest true t true h = sym (ap (λ b. cond b (Some e.1) None) h)
-      go rest true t false h = none_held now es fs.1 (none_later id e es distinct t) ∙ sym (ap (λ b. cond b (Some e.1) None) h)
+          → cond h (Some e.1) (holder (values_of es) key now) ≡ option_filter (λ r. is_unexpired now r.request.key) (cond t (Some e.1) (lookup (with_id id) es))
+      go rest true t true h = sym (ap (λ b. cond b (Some e.1) None) (unexpired_is true t h))
+      go rest true t false h =
+          none_held now es fs.1 (none_later id e es distinct t) ∙ sym (ap (λ b. cond b (Some e.1) None) (unexpired_is false t h))
       go rest false t true h = absurd (true≢false (sym (call_of_held now key e.1.request.key h) ∙ sym (id_is_call key id e.0.items e.1.request.key filed fs.0) ∙ t))
       go rest false t false h = rest
 

@@ -1,14 +1,13 @@
 -- Entries in order of position.
-use Rattle.std.proofs.Common.{◌≡◌, ℕ, zero, suc, ◌<◌, ◌≤◌, Bool, true, false, cond, eqb, ltb, true≢false, List, [], ◌∷◌, ◌++◌, length, get_or, Option, Some, None, Vec, Result, Ok, Err, refl, sym, ap, subst, ◌∙◌, arith, ◌⊎◌, inl, inr, ⊎_elim}
-use Rattle.std.specs.Prelude.{◌==◌, nat_eq, slice_get, MatchOption, MatchResult, map}
+use Rattle.std.proofs.Common.{◌≡◌, ℕ, zero, suc, ◌<◌, ◌≤◌, Bool, true, false, cond, eqb, ltb, List, [], ◌∷◌, ◌++◌, length, get_or, Some, None, Vec, Result, Ok, Err, refl, sym, ap, subst, ◌∙◌, arith, ◌⊎◌, inl, inr, ⊎_elim}
+use Rattle.std.specs.Prelude.{slice_get, MatchOption}
 use Rattle.std.specs.declared.cmp.Ordering.{Ordering}
 use Rattle.std.specs.Ordering.{nat_cmp}
-use Rattle.std.specs.List.{AllByRecursion, AllWithin, HoldsAt, filter, find}
+use Rattle.std.specs.List.{AllByRecursion, filter}
 use Rattle.std.specs.Map.{values_of}
-use Rattle.std.specs.List.Sorted.{IsNonDecreasingBy, IsPartitionPoint, IsBinarySearchResult, IsSearchInRange}
-use Rattle.std.specs.Ordering.{MatchOrdering, ordering_index}
+use Rattle.std.specs.List.Sorted.{IsNonDecreasingBy, IsBinarySearchResult, IsSearchInRange}
+use Rattle.std.specs.Ordering.{ordering_index}
 use Rattle.std.specs.declared.cmp.Ordering.TheVariants.{Less, Equal, Greater}
-use Rattle.std.specs.Cmp.{nat_cmp_is}
 use Rattle.std.specs.Result.{result_ok}
 use Rattle.std.proofs.lemmas.Bool.{ltb-true, ltb-false}
 use Rattle.std.proofs.lemmas.Bool.Decides.{nat_tests}
@@ -16,7 +15,7 @@ use Rattle.std.proofs.lemmas.Option.{slice_get-get_or, get_or_from_slice_get, sl
 use Rattle.ft_base.specs.declared.requests.Outcome.{Outcome}
 use Rattle.indexmap.specs.Layout.{set_value_at}
 use Rattle.reply_table.specs.Ids.{AreFiled, IsFiledAs}
-use Rattle.reply_table.specs.Entries.{AreInOrder, IsAfter, entry_at, with_reply, answered}
+use Rattle.reply_table.specs.Entries.{AreInOrder, IsAfter, entry_at, with_reply, replied, answered}
 use Rattle.reply_table.specs.declared.entries.Retained.{Retained}
 use Rattle.reply_table.proofs.Filed.{all_of_filter, all_of_push}
 
@@ -161,7 +160,7 @@ module _ (position : ℕ) (outcome : Outcome) where
   position_of_answered : (r : Retained) → (answered position outcome r).position ≡ r.position
   position_of_answered r = go (eqb r.position position)
     where
-      go : (b : Bool) → (cond b (record r { reply = Some outcome }) r).position ≡ r.position
+      go : (b : Bool) → (cond b (replied outcome r) r).position ≡ r.position
       go true = refl
       go false = refl
 
@@ -184,7 +183,7 @@ module _ (position : ℕ) (outcome : Outcome) where
       go : (entry_at rs position ≡ None → rs ≡ with_reply rs position outcome) → (b : Bool) → eqb r.position position ≡ b
           → cond b (Some r) (entry_at rs position) ≡ None → r ∷ rs ≡ answered position outcome r ∷ with_reply rs position outcome
       go rest true t h = absurd cc
-      go rest false t h = ap (λ (xs : List Retained). r ∷ xs) (rest h) ∙ sym (ap (λ b. cond b (record r { reply = Some outcome }) r ∷ with_reply rs position outcome) t)
+      go rest false t h = ap (λ (xs : List Retained). r ∷ xs) (rest h) ∙ sym (ap (λ b. cond b (replied outcome r) r ∷ with_reply rs position outcome) t)
 
   none_of_later : (rs : List Retained) → AllByRecursion (λ (other : Retained). position < other.position) rs → entry_at rs position ≡ None
   none_of_later [] h = refl
@@ -192,23 +191,23 @@ module _ (position : ℕ) (outcome : Outcome) where
 
   module _ {K : Type 0} where
     pub answered_there : (es : List (K × Retained)) (i : ℕ) (e : K × Retained) → AreInOrder (values_of es) → slice_get es i ≡ Some e → e.1.position ≡ position
-        → values_of (set_value_at es i (record e.1 { reply = Some outcome })) ≡ with_reply (values_of es) position outcome
+        → values_of (set_value_at es i (replied outcome e.1)) ≡ with_reply (values_of es) position outcome
     answered_there [] i e h g p = absurd cc
     answered_there (d ∷ es) zero e h g p =
         let same : d.1 ≡ e.1 = ap (λ (x : K × Retained). x.1) (let s : d ≡ e = cc in s) in
         let at : d.1.position ≡ position = ap (λ (x : Retained). x.position) same ∙ p in
         let tail = unanswered_stay (values_of es) (none_of_later (values_of es) (subst (λ n. AllByRecursion (λ (other : Retained). n < other.position) (values_of es)) at h.0)) in
-        ap (λ (xs : List Retained). record e.1 { reply = Some outcome } ∷ xs) tail
-        ∙ ap (λ (x : Retained). record x { reply = Some outcome } ∷ with_reply (values_of es) position outcome) (sym same)
-        ∙ sym (ap (λ b. cond b (record d.1 { reply = Some outcome }) d.1 ∷ with_reply (values_of es) position outcome) (eqb_same d.1.position position at))
+        ap (λ (xs : List Retained). replied outcome e.1 ∷ xs) tail
+        ∙ ap (λ (x : Retained). replied outcome x ∷ with_reply (values_of es) position outcome) (sym same)
+        ∙ sym (ap (λ b. cond b (replied outcome d.1) d.1 ∷ with_reply (values_of es) position outcome) (eqb_same d.1.position position at))
     answered_there (d ∷ es) (suc i) e h g p =
         let less : d.1.position < e.1.position = all_at (λ (other : Retained). d.1.position < other.position) (values_of es) i e.1 h.0 (value_at es i e g) in
         ap (λ (xs : List Retained). d.1 ∷ xs) (answered_there es i e h.1 g p)
-        ∙ sym (ap (λ b. cond b (record d.1 { reply = Some outcome }) d.1 ∷ with_reply (values_of es) position outcome)
+        ∙ sym (ap (λ b. cond b (replied outcome d.1) d.1 ∷ with_reply (values_of es) position outcome)
         (eqb_not d.1.position position (subst (λ n. d.1.position < n) p less)))
 
   pub filed_there : {A : Type 0} (es : List (Vec ℕ A × Retained)) (i : ℕ) (e : Vec ℕ A × Retained) → AreFiled es → slice_get es i ≡ Some e
-      → AreFiled (set_value_at es i (record e.1 { reply = Some outcome }))
+      → AreFiled (set_value_at es i (replied outcome e.1))
   filed_there [] i e h g = absurd cc
   filed_there {A} (d ∷ es) zero e h g =
       let same : d.1 ≡ e.1 = ap (λ (x : Vec ℕ A × Retained). x.1) (let s : d ≡ e = cc in s) in

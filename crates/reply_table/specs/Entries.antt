@@ -1,11 +1,12 @@
 -- The retained entries of a journal, as a list in order of position, and what the table's calls make of it.
 -- (Chapter 23, FTRequestServiceContext: a repeated request is given the reply of its first acceptance.)
-use Rattle.std.specs.Prelude.{◌≡◌, ℕ, ◌<◌, ◌==◌, ◌&&◌, Bool, false, not, nat_lt, if◌then◌else◌, List, [], ◌∷◌, ◌++◌, map, Option, Some, None}
+use Rattle.std.specs.Prelude.{ℕ, ◌<◌, ◌==◌, ◌&&◌, Bool, false, not, nat_lt, if◌then◌else◌, List, [], ◌∷◌, ◌++◌, map, Option, Some, None, unwrap_or}
 use Rattle.std.specs.Option.{option_and_then}
 use Rattle.std.specs.Ordering.{int_eq}
 use Rattle.std.specs.List.{AllByRecursion, filter, find}
 use Rattle.std.specs.Str.{bytes_eq}
-use Rattle.ft_base.specs.Journal.{is_held_by}
+use Rattle.ft_base.specs.Admissions.{says_same}
+use Rattle.ft_base.specs.Journal.{is_call, is_held_by, is_unexpired}
 use Rattle.ft_base.specs.declared.numbers.Version.{Version}
 use Rattle.ft_base.specs.declared.numbers.Tick.{Tick}
 use Rattle.ft_base.specs.declared.requests.Key.{Key}
@@ -22,15 +23,6 @@ pub record Table : Type 0 where
   pub room : Bool
 
 -- ---- what a request is to the entries
-
--- a request says the same as another: operation, arguments and expiration
-abbrev pub expires_at : ℕ → Option Key → Bool
-expires_at expiration None = false
-expires_at expiration (Some key) = key.expiration.0 == expiration
-
-abbrev pub says_same : Request → Key → Request → Bool
-says_same request key other =
-    (bytes_eq request.op other.op && bytes_eq request.args other.args) && expires_at key.expiration.0 other.key
 
 -- the entry that holds a key's retention id: of the same client, with an expiration still to come
 abbrev pub holder : List Retained → Key → ℕ → Option Retained
@@ -50,10 +42,6 @@ found entries request (Some key) now = against request key (holder entries key n
 abbrev pub unanswered : ℕ → Version → Tick → Request → Retained
 unanswered position version at request = record { position = position; version = version; at = at; request = request; reply = None }
 
-abbrev pub is_call : Key → Option Key → Bool
-is_call key None = false
-is_call key (Some other) = bytes_eq key.client other.client && int_eq key.retention.0 other.retention.0
-
 -- without the entry of a client's retention id
 abbrev pub without : Key → List Retained → List Retained
 without key entries = filter (λ e. not (is_call key e.request.key)) entries
@@ -62,10 +50,6 @@ without key entries = filter (λ e. not (is_call key e.request.key)) entries
 abbrev pub joined : List Retained → Retained → Option Key → List Retained
 joined entries entry None = entries
 joined entries entry (Some key) = without key entries ++ entry ∷ []
-
-abbrev pub is_unexpired : ℕ → Option Key → Bool
-is_unexpired time None = false
-is_unexpired time (Some key) = nat_lt time key.expiration.0
 
 -- those whose expiration is still to come
 abbrev pub unexpired : ℕ → List Retained → List Retained
@@ -80,8 +64,12 @@ entry_at entries position = find (λ e. e.position == position) entries
 abbrev pub reply_of : List Retained → ℕ → Option Outcome
 reply_of entries position = option_and_then (λ (e : Retained). e.reply) (entry_at entries position)
 
+-- the first reply of an entry stays
+abbrev pub replied : Outcome → Retained → Retained
+replied outcome e = record e { reply = Some (unwrap_or e.reply outcome) }
+
 abbrev pub answered : ℕ → Outcome → Retained → Retained
-answered position outcome e = if e.position == position then record e { reply = Some outcome } else e
+answered position outcome e = if e.position == position then replied outcome e else e
 
 -- the entry at a position has run, with this outcome
 abbrev pub with_reply : List Retained → ℕ → Outcome → List Retained

@@ -1,11 +1,12 @@
 -- How the table files its entries: by the bytes of the retention id and of the client's id.
-use Rattle.std.specs.Prelude.{◌≡◌, ◌<◌, ◌≤◌, ◌^◌, ℕ, vec_len, vec_capacity, slice_get, List, [], ◌∷◌, ◌++◌, Option, Some, None}
+use Rattle.std.specs.Prelude.{◌≡◌, ◌<◌, ◌≤◌, ◌^◌, ℕ, vec_len, vec_capacity, slice_get, List, ◌++◌, Option, Some, None}
 use Rattle.std.specs.Int.{w32, to_be_bytes, cast_unsigned, cast_signed}
 use Rattle.std.specs.List.{AllByRecursion}
 use Rattle.std.specs.declared.vec.Vec.{Vec}
 use Rattle.indexmap.specs.Layout.{set_value_at}
 use Rattle.ft_base.specs.declared.requests.Key.{Key}
 use Rattle.ft_base.specs.declared.requests.Outcome.{Outcome}
+use Rattle.reply_table.specs.Entries.{replied}
 use Rattle.reply_table.specs.declared.entries.Retained.{Retained}
 
 unfoldable pub id_of : Key → List ℕ
@@ -30,8 +31,8 @@ abbrev pub HasRoom : {A : Type 0} → Option (Vec ℕ A) → ℕ → Type 0
 HasRoom None room = Unit {0}
 HasRoom (Some id) room = (vec_len id ≡ 0) × (259 ≤ vec_capacity id) × (0 < room)
 
--- the entry at an index was given a reply
+-- the entry at an index was given a reply, where it had none
 pub record IsAnsweredAt {A : Type 0} (old new : List (Vec ℕ A × Retained)) (index : ℕ) (outcome : Outcome) : Type 0 where
   pub entry : Vec ℕ A × Retained
   pub at : slice_get old index ≡ Some entry
-  pub is : new ≡ set_value_at old index (record entry.1 { reply = Some outcome })
+  pub is : new ≡ set_value_at old index (replied outcome entry.1)

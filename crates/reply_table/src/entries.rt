@@ -1,6 +1,7 @@
 ghost use Rattle.std.specs.Prelude.{◌≡◌, ℕ};
-ghost use Rattle.ft_base.specs.Journal.{is_held_by};
-ghost use Rattle.reply_table.specs.Entries.{says_same, is_unexpired, expires_at};
+ghost use Rattle.ft_base.specs.Admissions.{says_same, expires_at};
+ghost use Rattle.ft_base.specs.Journal.{is_unexpired};
+ghost use Rattle.reply_table.specs.Entries.{replied};
 
 use ft_base::{Key, Outcome, Request, Tick, Version};
 
@@ -28,20 +29,6 @@ pub enum Found {
     Other(u32),
 }
 
-/// Whether an entry's key holds the retention id of another key.
-pub(crate) fn is_held(now: Tick, key: &Key, other: &Option<Key>) -> bool
-    ensures { result ≡ is_held_by now.0 key.now other.now }
-{
-    match other {
-        None => false,
-        Some(other) => {
-            key.client.is(&other.client)
-                && key.retention.0 == other.retention.0
-                && now.0 < other.expiration.0
-        }
-    }
-}
-
 fn expires_at(expiration: Tick, key: &Option<Key>) -> bool
     ensures { result ≡ expires_at expiration.0 key.now }
 {
@@ -67,5 +54,14 @@ pub(crate) fn is_unexpired(time: Tick, key: &Option<Key>) -> bool
     match key {
         None => false,
         Some(key) => time.0 < key.expiration.0,
+    }
+}
+
+/// Gives an entry its reply, where it has none.
+pub(crate) fn answer_entry(entry: &mut Retained, outcome: Outcome)
+    ensures { entry.new ≡ replied outcome entry.old }
+{
+    if entry.reply.is_none() {
+        entry.reply = Some(outcome);
     }
 }

@@ -3,10 +3,11 @@ ghost use Rattle.std.specs.Prelude.{◌≡◌, ◌<◌, ◌≤◌, ℕ, None, no
 ghost use Rattle.std.specs.Map.{values_of};
 ghost use Rattle.std.specs.List.{filter};
 ghost use Rattle.indexmap.specs.IndexMap.{spare, index_map_len};
-ghost use Rattle.reply_table.specs.Entries.{holder, without, is_call, is_unexpired, unexpired, entry_at, joined, with_reply, AreInOrder, IsAfter};
+ghost use Rattle.ft_base.specs.Journal.{is_call, is_unexpired};
+ghost use Rattle.reply_table.specs.Entries.{holder, without, unexpired, entry_at, joined, with_reply, AreInOrder, IsAfter};
 ghost use Rattle.reply_table.specs.Ids.{AreFiled, IsFiledBy, IsAnsweredAt};
 
-use crate::entries::{Retained, is_held, is_unexpired};
+use crate::entries::{Retained, answer_entry, is_unexpired};
 use crate::ids::{ID_LIMIT, put_id};
 use arrayvec::ArrayVec;
 use ft_base::{Key, Outcome, Tick};
@@ -24,7 +25,7 @@ pub(crate) fn holder<'a>(rows: &'a Rows, key: &Key, now: Tick) -> Option<&'a Ret
     let mut id = ArrayVec::new();
     put_id(key, &mut id);
     match rows.get(id.as_slice()) {
-        Some(entry) if is_held(now, key, &entry.request.key) => Some(entry),
+        Some(entry) if is_unexpired(now, &entry.request.key) => Some(entry),
         _ => None,
     }
 }
@@ -73,7 +74,7 @@ pub(crate) fn forget(rows: &mut Rows, key: &Key)
     rows.shift_remove(id.as_slice());
 }
 
-/// Gives an id its bytes, in the memory that it has.
+/// Gives an id its bytes, in the memory that it has, and gives back what it doesn't need.
 fn file(id: Vec<u8>, key: &Key) -> Vec<u8>
     requires empty { vec_len id ≡ 0 }
     requires room { ID_LIMIT ≤ vec_capacity id }
@@ -84,6 +85,7 @@ fn file(id: Vec<u8>, key: &Key) -> Vec<u8>
     put_id(key, &mut bytes);
     id.clear();
     id.extend_from_slice(bytes.as_slice()).unwrap();
+    id.shrink_to_fit();
     id
 }
 
@@ -107,17 +109,17 @@ pub(crate) fn join(rows: &mut Rows, id: Vec<u8>, entry: Retained)
     rows.insert(id, entry).unwrap();
 }
 
-/// Gives the entry at an index its reply.
+/// Gives the entry at an index its reply, where it has none.
 fn answer_at(rows: &mut Rows, index: usize, outcome: Outcome)
     requires { index < index_map_len rows.old }
     ensures entries { IsAnsweredAt rows.old.entries rows.new.entries index outcome }
     ensures room { spare rows.new ≡ spare rows.old }
 {
     let (_id, entry) = rows.pair_mut(index);
-    entry.reply = Some(outcome);
+    answer_entry(entry, outcome);
 }
 
-/// Gives the entry at a position its reply, where there is one.
+/// Gives the entry at a position its reply, where there is such an entry and it has none.
 pub(crate) fn answer(rows: &mut Rows, position: u32, outcome: Outcome)
     requires filed { AreFiled rows.old.entries }
     requires ordered { AreInOrder (values_of rows.old.entries) }

@@ -2,7 +2,8 @@ ghost use Rattle.std.specs.Prelude.{◌≡◌, ◌<◌, ◌≤◌, ℕ, true, fa
 ghost use Rattle.indexmap.specs.IndexMap.{spare};
 ghost use Rattle.std.specs.Map.{lookup, values_of};
 ghost use Rattle.std.specs.List.{filter, find};
-ghost use Rattle.reply_table.specs.Entries.{found, holder, unanswered, without, joined, unexpired, is_unexpired, entry_at, reply_of, with_reply, IsAfter};
+ghost use Rattle.ft_base.specs.Journal.{is_unexpired};
+ghost use Rattle.reply_table.specs.Entries.{found, holder, unanswered, without, joined, unexpired, entry_at, reply_of, with_reply, IsAfter};
 
 use crate::entries::{Found, Retained, says_same};
 use crate::ids::ID_LIMIT;
@@ -125,8 +126,8 @@ impl ReplyTable {
         join(&mut self.rows, id, entry);
     }
 
-    /// The entry at a position has run, with this outcome. Where no entry has that position, nothing
-    /// changes. It takes no memory.
+    /// The entry at a position has run, with this outcome. Where no entry has that position, or the entry
+    /// has a reply, nothing changes. It takes no memory.
     pub fn set_reply(&mut self, position: u32, outcome: Outcome)
         ensures { self.new ≡ record self.old { entries = with_reply self.old.entries position outcome } }
     {

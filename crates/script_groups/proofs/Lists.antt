@@ -5,7 +5,7 @@ use Rattle.std.specs.List.{AllByRecursion, range_with_len}
 use Rattle.std.proofs.lemmas.List.FromFn.{length-map-range_with_len}
 use Rattle.ft_base.specs.declared.limits.TheConstants.{HOST_LIMIT}
 use Rattle.iogr_reference.specs.Choices.{port_of}
-use Rattle.group_references.specs.Ports.{all_ports}
+use Rattle.host_ports.specs.Ports.{all_ports}
 
 pub all_at : {A : Type 0} (P : A → Type 0) (xs : List A) (k : ℕ) (d : A) → AllByRecursion P xs → k < length xs → P (slice_index_or xs k d)
 all_at P [] k d all inside = absurd (omega arith)

@@ -5,14 +5,14 @@ use Rattle.std.specs.List.{AllByRecursion}
 use Rattle.std.proofs.lemmas.Bool.{eqb-true}
 use Rattle.ft_base.specs.Machine.{Machine}
 use Rattle.ft_base.specs.Members.{is_member}
-use Rattle.ft_base.specs.Views.{IsPrimary}
+use Rattle.ft_base.specs.Views.{is_passive, IsPrimary}
 use Rattle.ft_base.specs.declared.limits.TheConstants.{HOST_LIMIT}
 use Rattle.ft_base.specs.declared.numbers.HostNo.{HostNo}
 use Rattle.ft_base.specs.declared.views.Style.{Style}
 use Rattle.ft_base.specs.declared.views.Style.TheVariants as styles
 use Rattle.group_model.specs.Agreeing.{IsSound, IsViewAt, first_up, taker}
 use Rattle.group_model.specs.Plain.{Group, Host}
-use Rattle.group_model.specs.Views.{host_no, is_passive, newest, newest_view, no_view, view_at}
+use Rattle.group_model.specs.Views.{host_no, newest, newest_view, no_view, view_at}
 use Rattle.script_groups.specs.Groups.{group_of, machine_of}
 use Rattle.script_groups.specs.Laws.{TakersAreInside}
 use Rattle.script_groups.specs.Lists.{got}

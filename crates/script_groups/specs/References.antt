@@ -3,9 +3,8 @@ use Rattle.std.specs.Prelude.{ℕ, Option, option_map}
 use Rattle.ft_base.specs.declared.views.View.{View}
 use Rattle.iogr_reference.specs.declared.references.GroupRef.{GroupRef}
 use Rattle.iogr_reference.specs.declared.references.Ior.{Ior}
-use Rattle.iogr_reference.specs.Views.{reference_of, group_of_view}
-use Rattle.group_references.specs.Ports.{all_ports}
-use Rattle.group_manager.specs.References.{plain_reference}
+use Rattle.iogr_reference.specs.Views.{reference_of, group_of_view, plain_reference}
+use Rattle.host_ports.specs.Ports.{all_ports}
 use Rattle.group_model.specs.Views.{newest_view}
 use Rattle.shipped_servants.specs.Kinds.{type_id}
 use Rattle.group_core.specs.Telling.{shown_view}

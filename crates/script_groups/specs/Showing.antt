@@ -1,6 +1,7 @@
 -- What `show` prints of a group.
 use Rattle.std.specs.Prelude.{ℕ, ◌&&◌, not, Bool, if◌then◌else◌, List, [], ◌∷◌, ◌++◌, length, map}
 use Rattle.std.specs.List.{filter, range_with_len}
+use Rattle.ft_base.specs.Views.{is_led_by, is_passive}
 use Rattle.ft_base.specs.Members.{is_member}
 use Rattle.ft_base.specs.declared.limits.TheConstants.{HOST_LIMIT}
 use Rattle.ft_base.specs.declared.views.Style.{Style}
@@ -13,7 +14,7 @@ use Rattle.ft_report.specs.declared.reports.Role.TheVariants as roles
 use Rattle.ft_report.specs.declared.reports.Standing.{Standing}
 use Rattle.ft_report.specs.declared.reports.Standing.TheVariants as standings
 use Rattle.group_model.specs.Plain.{Common, Host, Group, state_at}
-use Rattle.group_model.specs.Views.{version, host_no, newest_view, is_passive, is_primary}
+use Rattle.group_model.specs.Views.{version, host_no, newest_view}
 use Rattle.script_groups.specs.Groups.{ScriptGroup, machine_of, group_of}
 
 -- a host that is up, with a servant or without
@@ -27,7 +28,7 @@ standing_of m c h = if h.up then standing_up m c h else standings.Down
 
 abbrev pub member_role : Style → View → ℕ → Role
 member_role style view host =
-    if is_passive style then (if is_primary host view.primary then roles.Primary else roles.Backup) else roles.Active
+    if is_passive style then (if is_led_by view host then roles.Primary else roles.Backup) else roles.Active
 
 -- the line of a host in a role
 abbrev pub host_line : Machine → Group → Role → ℕ → ReportLine

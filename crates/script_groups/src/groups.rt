@@ -2,7 +2,6 @@ ghost use Rattle.std.specs.Prelude.{◌≡◌, ◌<◌, Some, IfOk, option_copie
 ghost use Rattle.std.specs.List.{AllByRecursion};
 ghost use Rattle.ft_base.specs.Members.{AreDifferent};
 ghost use Rattle.ft_base.specs.declared.limits.TheConstants.{HOST_LIMIT};
-ghost use Rattle.group_core.specs.Running.{is_short};
 ghost use Rattle.group_model.specs.Views.{newest_view};
 ghost use Rattle.script_groups.specs.Acting.{MayCome, IsActed, IsKept, IsSoundGroup};
 ghost use Rattle.script_groups.specs.Groups.{common_of, opened, signature_of};
@@ -11,7 +10,7 @@ ghost use Rattle.script_groups.specs.Standing.{IsStanding};
 
 use ft_base::{GroupId, Members, Name, NoMemory, Signature, Steps, Style, Tick, Version, View};
 use ft_outside::MemKeeper;
-use group_core::{GroupCore, cores_tell, unfailing_logs_show_no_fault};
+use group_core::{GroupCore, cores_tell, is_short, unfailing_logs_show_no_fault};
 use group_model::{Event, GroupAnswer, groups_grow};
 use past_events::PastEvents;
 use shipped_servants::{Kind, Shipped};
@@ -47,16 +46,6 @@ impl Model for ScriptGroup {
     ghost view = { seen };
 
     ghost invariant = { λ g. StandsUnlessPoisoned g.core (seen g) };
-}
-
-/// Whether memory was wanted.
-fn is_short(answer: &GroupAnswer) -> bool
-    ensures { result ≡ is_short answer.now }
-{
-    match answer {
-        GroupAnswer::NoMemory => true,
-        _ => false,
-    }
 }
 
 impl ScriptGroup {

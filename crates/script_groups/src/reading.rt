@@ -2,7 +2,7 @@
 //! `locations_of_members`, `get_object_group_id`, `get_object_group_ref`, `get_member_ref`.)
 ghost use Rattle.std.specs.Prelude.{◌≡◌, ◌<◌, IfOk};
 ghost use Rattle.ft_base.specs.declared.limits.TheConstants.{HOST_LIMIT};
-ghost use Rattle.group_references.specs.Ports.{all_ports};
+ghost use Rattle.host_ports.specs.Ports.{all_ports};
 ghost use Rattle.script_groups.specs.Acting.{IsKept};
 ghost use Rattle.script_groups.specs.Reading.{identified, located, member_at, member_referred, referred};
 

@@ -2,35 +2,25 @@
 ghost use Rattle.std.specs.Prelude.{◌≡◌, ◌<◌, IfOk};
 ghost use Rattle.std.specs.List.{AllByRecursion};
 ghost use Rattle.ft_base.specs.declared.limits.TheConstants.{HOST_LIMIT};
-ghost use Rattle.group_references.specs.Ports.{all_ports};
+ghost use Rattle.host_ports.specs.Ports.{all_ports};
 ghost use Rattle.script_groups.specs.Acting.{IsKept};
 ghost use Rattle.iogr_reference.specs.Formats.{IsWritable};
 ghost use Rattle.script_groups.specs.References.{ior_at, ior_in, member_ior, newest_ior, newest_reference, reference_at, reference_in};
 ghost use Rattle.shipped_servants.specs.Kinds.{type_id};
 
 use crate::groups::ScriptGroup;
-use ft_base::{HostNo, Name, NoMemory, Version, View};
-use group_manager::plain_ref;
-use group_references::{every_host_has_a_port, view_reference};
-use iogr_reference::{GroupRef, Ior, Ports, ref_of};
+use ft_base::{HostNo, NoMemory, Version, View};
+use host_ports::every_host_has_a_port;
+use iogr_reference::{GroupRef, Ior, Ports, plain_ref, ref_of, view_reference};
 use std::alloc::Global;
 
 impl ScriptGroup {
-    fn type_name(&self, alloc: Global) -> Result<Name, NoMemory>
-        ensures { IfOk result (λ name. name ≡ type_id self.now.kind) }
-    {
-        match Name::of(alloc, self.kind().type_id()) {
-            Ok(name) => Ok(name),
-            Err(_) => Err(NoMemory),
-        }
-    }
-
     fn reference_in(&self, alloc: Global, view: &View, ports: &Ports) -> Result<GroupRef, NoMemory>
         requires ports { ports.now ≡ all_ports }
         requires hosts { AllByRecursion (λ host. host < HOST_LIMIT) view.now.members }
         ensures { IfOk result (λ reference. reference ≡ reference_in self.now view.now) }
     {
-        let type_id = self.type_name(alloc)?;
+        let type_id = self.kind().type_name(alloc)?;
         view_reference(alloc, self.id(), &type_id, view, ports)
     }
 
@@ -71,7 +61,7 @@ impl ScriptGroup {
         ensures reference { IfOk result (λ ior. ior ≡ ior_in self.now view.now) }
         ensures writable { IfOk result IsWritable }
     {
-        let type_id = self.type_name(alloc)?;
+        let type_id = self.kind().type_name(alloc)?;
         ref_of(alloc, self.id(), &type_id, view, ports)
     }
 
@@ -120,7 +110,7 @@ impl ScriptGroup {
         ensures writable { IfOk result IsWritable }
     {
         every_host_has_a_port();
-        let type_id = self.type_name(alloc)?;
+        let type_id = self.kind().type_name(alloc)?;
         plain_ref(alloc, self.id(), &type_id, host, ports)
     }
 }

@@ -2,7 +2,7 @@
 ghost use Rattle.std.specs.Prelude.{◌≡◌, ◌<◌, ◌++◌, map, IfOk, OnOk};
 ghost use Rattle.ft_base.specs.declared.limits.TheConstants.{HOST_LIMIT};
 ghost use Rattle.ft_report.specs.declared.reports.Role.TheVariants as roles;
-ghost use Rattle.group_model.specs.Views.{is_primary, newest_view};
+ghost use Rattle.group_model.specs.Views.{newest_view};
 ghost use Rattle.script_groups.specs.Acting.{IsKept};
 ghost use Rattle.script_groups.specs.Groups.{common_of, group_of, knows_as_member, machine_of};
 ghost use Rattle.script_groups.specs.Showing.{formers, host_line, is_former, member_line, member_role, shown, standing_of};
@@ -13,15 +13,6 @@ use ft_report::{ReportLine, ReportLines, Role, Standing};
 use group_core::cores_tell;
 use std::alloc::Global;
 
-fn is_primary(host: u8, primary: Option<HostNo>) -> bool
-    ensures { result ≡ is_primary host primary }
-{
-    match primary {
-        None => false,
-        Some(primary) => primary.0 == host,
-    }
-}
-
 /// What a member is in its group.
 fn member_role(style: Style, view: &View, host: u8) -> Role
     ensures { result ≡ member_role style view.now host }
@@ -29,7 +20,7 @@ fn member_role(style: Style, view: &View, host: u8) -> Role
     match style {
         Style::Active => Role::Active,
         Style::Cold | Style::Warm => {
-            if is_primary(host, view.primary) {
+            if view.is_led_by(HostNo(host)) {
                 Role::Primary
             } else {
                 Role::Backup

@@ -1,5 +1,5 @@
 //! The groups that are made and deleted, and their properties.
-ghost use Rattle.std.specs.Prelude.{◌≡◌, ◌+◌, ◌<◌, ◌≤◌, ◌^◌, None, Some, false, true, length, slice_get, IfOk, OnOk};
+ghost use Rattle.std.specs.Prelude.{◌≡◌, ◌+◌, ◌<◌, ◌≤◌, ◌^◌, None, Some, false, true, length, slice_get, OnOk};
 ghost use Rattle.property_manager.specs.Groups.{group_of};
 ghost use Rattle.property_manager.specs.Judging.{refusal, refusal_of_names};
 ghost use Rattle.script_groups.specs.Acting.{IsSoundGroup};
@@ -14,17 +14,6 @@ use ft_base::{Name, NoMemory};
 use property_manager::{Property, PropertyFault, PropertyManager};
 use script_groups::ScriptGroup;
 use shipped_servants::Kind;
-use std::alloc::Global;
-
-// A kind's type id, as a name.
-fn type_name(alloc: Global, kind: Kind) -> Result<Name, NoMemory>
-    ensures { IfOk result (λ name. name ≡ type_id kind) }
-{
-    match Name::of(alloc, kind.type_id()) {
-        Ok(name) => Ok(name),
-        Err(_) => Err(NoMemory),
-    }
-}
 
 impl World {
     /// What is set for all groups, by type, and for each group that is there.
@@ -52,7 +41,7 @@ impl World {
         ensures { OnOk result (self.new ≡ with_group self.old group criteria.now) }
     {
         let alloc = self.alloc();
-        let type_id = type_name(alloc, group.kind())?;
+        let type_id = group.kind().type_name(alloc)?;
         self.groups.reserve_one(alloc, group.name())?;
         match self.settings.adopt(alloc, group.id(), &type_id, criteria) {
             Err(_) => Err(NoMemory),
@@ -97,7 +86,7 @@ impl World {
         ensures { Settles (refusal false properties.now) self.old (type_settings self.old.settings kind properties.now) result self.new }
     {
         let alloc = self.alloc();
-        let Ok(type_id) = type_name(alloc, kind) else {
+        let Ok(type_id) = kind.type_name(alloc) else {
             return Err(PropertyFault::NoMemory);
         };
         self.settings
@@ -110,7 +99,7 @@ impl World {
         ensures { Settles (refusal_of_names names.now) self.old (without_type self.old.settings kind names.now) result self.new }
     {
         let alloc = self.alloc();
-        let Ok(type_id) = type_name(alloc, kind) else {
+        let Ok(type_id) = kind.type_name(alloc) else {
             return Err(PropertyFault::NoMemory);
         };
         self.settings.remove_type_properties(alloc, &type_id, names)

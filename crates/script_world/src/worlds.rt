@@ -2,7 +2,7 @@ ghost use Rattle.std.specs.Prelude.{◌≡◌, ℕ, ◌+◌, ◌*◌, ◌<◌, �
 ghost use Rattle.std.specs.List.{AllByRecursion};
 ghost use Rattle.ft_base.specs.declared.limits.TheConstants.{HOST_LIMIT};
 ghost use Rattle.group_model.specs.Sending.{sent_by};
-ghost use Rattle.group_references.specs.Ports.{all_ports};
+ghost use Rattle.host_ports.specs.Ports.{all_ports};
 ghost use Rattle.script_clients.specs.Clients.{Client, binding, failing, hearing, taking};
 ghost use Rattle.script_groups.specs.Acting.{IsSoundGroup, MayCome};
 ghost use Rattle.script_groups.specs.Groups.{ScriptGroup as Group, entries_of, group_named, group_numbered};
@@ -19,7 +19,7 @@ use crate::messages::Message;
 use client_retry::Heard;
 use ft_base::{GroupId, HOST_LIMIT, HostNo, Name, NoMemory, Request, Steps, Tick};
 use group_model::{Event, GroupAnswer};
-use group_references::all_ports;
+use host_ports::all_ports;
 use iogr_reference::{GroupRef, Ports};
 use property_manager::PropertyManager;
 use script_clients::{ScriptClient, Told};
@@ -81,7 +81,7 @@ impl Model for World {
     ghost Value = { World };
 
     ghost use Rattle.std.specs.Prelude.{◌≡◌};
-    ghost use Rattle.group_references.specs.Ports.{all_ports};
+    ghost use Rattle.host_ports.specs.Ports.{all_ports};
     ghost use Rattle.script_world.specs.Standing.{world_of};
     ghost use Rattle.script_world.specs.Sound.{IsSound};
 

@@ -1,5 +1,5 @@
 -- The account keeps the laws of a servant: what it owes over balances.
-use Rattle.std.proofs.Common.{◌≡◌, ℕ, ◌+◌, ◌-◌, ◌^◌, ◌<◌, Bool, true, false, nat_lt, if◌then◌else◌, ℤ, pos, negsuc, List, [], ◌∷◌, Option, Some, None, option_map, codes, length, refl, ap, sym, lit<, lit≤}
+use Rattle.std.proofs.Common.{◌≡◌, ℕ, ◌+◌, ◌-◌, ◌^◌, ◌<◌, Bool, true, false, nat_lt, if◌then◌else◌, ℤ, pos, negsuc, List, [], Option, Some, None, option_map, codes, length, refl, ap, lit<, lit≤}
 use Rattle.std.proofs.Math.Nat.{lt_of_lt_of_le, lt_of_le_of_lt, sub-le}
 use Rattle.std.proofs.lemmas.Bool.{ltb-true, lt-ltb}
 use Rattle.byteorder.specs.Numbers.{big_number-reads_back}
@@ -9,11 +9,10 @@ use Rattle.ft_base.specs.Coding.{IsCoding, value_in}
 use Rattle.ft_base.specs.CodingLaws as codings
 use Rattle.ft_base.specs.Machine.{FitsAs, IsGivenAs}
 use Rattle.ft_base.specs.Text.{IsName}
-use Rattle.ft_base.specs.declared.requests.Request.{Request}
 use Rattle.ft_base.specs.declared.requests.Outcome.{Outcome}
 use Rattle.ft_base.specs.declared.requests.Outcome.TheVariants.{User}
 use Rattle.servant_account.specs.Operations.{operation_of, signature_of}
-use Rattle.servant_account.specs.Account.{account, balance_in, deposited, is_balance, opening_state, ran, read, spelled, state_of, step_of, told, withdrawn}
+use Rattle.servant_account.specs.Account.{account, balance_in, deposited, is_balance, opening_state, ran, read, spelled, state_of, told, withdrawn}
 use Rattle.servant_account.specs.declared.operations.Operation.{Operation}
 use Rattle.servant_account.specs.declared.operations.Operation.TheVariants.{Deposit, Withdraw, Balance}
 
@@ -87,7 +86,7 @@ ran_stays (Some Deposit) b args h = deposited_stays b _ h
 ran_stays (Some Withdraw) b args h = withdrawn_stays b _ h
 ran_stays (Some Balance) b args h = h
 
-pub owes : IsCoding account
+pub owes : IsCoding account (λ n m. Unit {0})
 unfolding account balance_in value_in
 owes = record {
   opens = refl;
@@ -97,7 +96,6 @@ owes = record {
   gives = λ n q h fits. ran_gives (operation_of q.op) n q.args (ltb-true n (2 ^ 63) h) fits;
   update_short = λ n m h k. eight m;
   update_stays = λ n m u h is. (codings.says account u m is).valid;
-  Leads = λ n m. Unit {0};
   leads_itself = λ n h. tt;
   leads_on = λ n m q h k fits leads. tt;
   updates = λ n m h k leads. codings.said_where account m k (read_back m k);

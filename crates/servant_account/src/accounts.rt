@@ -1,15 +1,11 @@
 ghost use Rattle.std.specs.Prelude.{◌≡◌, ◌<◌, ◌^◌, ◌≤ℤ◌, ℕ, pos};
-ghost use Rattle.ft_base.specs.CodingLaws as codings;
-ghost use Rattle.servant_account.specs.Account.{account_machine, state_of};
+ghost use Rattle.servant_account.specs.Account.{account};
 ghost use Rattle.servant_account.specs.Laws.{owes};
 
 use crate::operations::{Operation, balance_in, number_bytes};
-use ft_base::{
-    Bytes, Name, NoMemory, Outcome, Request, Servant, Signature, StateFault, Steps, UpdateFault,
-};
+use ft_base::{Bytes, Coded, Name, NoMemory, Outcome, Request, Signature, UpdateFault};
 use std::alloc::Global;
 use std::marker::Model;
-use std::sync::ledger::Ledger;
 
 /// An account (`IDL:ftc/Account:1.0`). It is seen as its balance, from 0 to
 /// 9,223,372,036,854,775,807.
@@ -41,28 +37,26 @@ impl Account {
 /// A deposit, a withdrawal and a look at the balance. The first two are refused with `BadAmount`
 /// where the amount is negative, a deposit with `Overflow` where the sum would be no balance, and
 /// a withdrawal with `Insufficient` where it is above the balance; a refusal changes nothing.
-impl Servant for Account {
-    ghost machine = { λ _. account_machine };
+impl Coded for Account {
+    ghost coding = { account };
 
-    ghost kind = { λ _. 0 };
+    ghost leads = { λ _ _. Unit {0} };
 
-    ghost state = { state_of };
+    #[tactic(auto, using(crate::proofs::States::good))]
+    fn is_sound(&self) {
+        let _balance = self.balance;
+    }
 
-    #[tactic(auto, using(crate::proofs::States::signature_is))]
-    fn signature(&self, op: &Name) -> Option<Signature> {
+    #[tactic(auto, unfolding(crate::specs::Account::account))]
+    fn signature_of(op: &Name) -> Option<Signature> {
         match Operation::named(op) {
             Some(operation) => Some(operation.signature()),
             None => None,
         }
     }
 
-    fn invoke<L: Ledger>(
-        &mut self,
-        alloc: Global,
-        request: &Request,
-        steps: &mut Steps<L>,
-    ) -> Result<Outcome, NoMemory> {
-        steps.tick();
+    #[tactic(auto, unfolding(crate::specs::Account::account))]
+    fn run(&mut self, alloc: Global, request: &Request) -> Result<Outcome, NoMemory> {
         let operation = match Operation::named(&request.op) {
             Some(operation) => operation,
             None => unreachable!(),
@@ -76,30 +70,26 @@ impl Servant for Account {
         }
     }
 
-    #[tactic(auto, using(crate::proofs::States::bytes_of_state))]
-    fn get_state(&self, alloc: Global) -> Result<Bytes, NoMemory> {
-        let bytes = number_bytes(alloc, self.balance)?;
-        Ok(bytes)
+    #[tactic(auto, unfolding(crate::specs::Account::account))]
+    fn spell(&self, alloc: Global) -> Result<Bytes, NoMemory> {
+        number_bytes(alloc, self.balance)
     }
 
-    #[tactic(auto, using(crate::proofs::States::set_to, crate::proofs::States::is_set, crate::proofs::States::is_unset))]
-    fn set_state(&mut self, _alloc: Global, bytes: &Bytes) -> Result<(), StateFault> {
+    #[tactic(auto, using(crate::proofs::States::value_is))]
+    fn read(_alloc: Global, bytes: &Bytes) -> Result<Option<Account>, NoMemory> {
         match balance_in(bytes) {
-            Some(balance) => {
-                self.balance = balance;
-                Ok(())
-            }
-            None => Err(StateFault::InvalidState),
+            Some(balance) => Ok(Some(Account { balance })),
+            None => Ok(None),
         }
     }
 
-    fn get_update(&self, alloc: Global, _base: &Account) -> Result<Bytes, NoMemory> {
-        let bytes = number_bytes(alloc, self.balance)?;
-        Ok(bytes)
+    #[tactic(auto, unfolding(crate::specs::Account::account))]
+    fn spell_update(&self, alloc: Global, _base: &Account) -> Result<Bytes, NoMemory> {
+        number_bytes(alloc, self.balance)
     }
 
-    #[tactic(auto, using(crate::proofs::States::updated_to, crate::proofs::States::not_updated))]
-    fn set_update(&mut self, _alloc: Global, update: &Bytes) -> Result<(), UpdateFault> {
+    #[tactic(auto, unfolding(crate::specs::Account::account))]
+    fn take_update(&mut self, _alloc: Global, update: &Bytes) -> Result<(), UpdateFault> {
         match balance_in(update) {
             Some(later) => {
                 self.balance = later;
@@ -109,23 +99,11 @@ impl Servant for Account {
         }
     }
 
-    fn copy(&self, _alloc: Global) -> Result<Account, NoMemory> {
+    fn equal(&self, _alloc: Global) -> Result<Account, NoMemory> {
         Ok(Account {
             balance: self.balance,
         })
     }
 
-    ghost has_state = { codings.has_state owes };
-
-    ghost stays = { λ k. codings.stays owes };
-
-    ghost gives = { λ k. codings.gives owes };
-
-    ghost sized = { λ k. codings.sized owes };
-
-    ghost update_sized = { λ k. codings.update_sized owes };
-
-    ghost update_stays = { λ k. codings.update_stays owes };
-
-    ghost updates = { λ k. codings.updates owes };
+    ghost owes = { owes };
 }

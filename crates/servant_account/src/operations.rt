@@ -2,14 +2,12 @@ ghost use Rattle.std.specs.Prelude.{◌≡◌, ◌<◌, ◌^◌, ◌∷◌, [], 
 ghost use Rattle.byteorder.specs.Endian.{big_bytes, big_number};
 ghost use Rattle.ft_base.specs.Canonical.{IsCanonical};
 ghost use Rattle.ft_base.specs.Machine.{FitsAs};
-ghost use Rattle.ft_base.specs.Text.{name_refusal};
-ghost use Rattle.ft_base.specs.declared.requests.Outcome.TheVariants.{User};
 ghost use Rattle.ft_base.specs.declared.requests.Par.TheVariants.{I64};
 ghost use Rattle.servant_account.specs.Account.{amount_of, balance_in as balance_said, deposited, ran, told, withdrawn};
 ghost use Rattle.servant_account.specs.Operations.{operation_of, signature_of};
 
 use cdr_codec::{CdrReader, Order};
-use ft_base::{Bytes, Name, NameFault, NoMemory, Outcome, Par, Signature};
+use ft_base::{Bytes, Name, NoMemory, Outcome, Par, Signature};
 use std::alloc::Global;
 
 /// The largest balance.
@@ -21,19 +19,6 @@ pub enum Operation {
     Deposit,
     Withdraw,
     Balance,
-}
-
-/// A user exception of this name.
-fn refusal(alloc: Global, exception: &[u8]) -> Result<Outcome, NoMemory>
-    requires short { length exception.now < 256 }
-    requires name { name_refusal exception.now ≡ None }
-    ensures { IfOk result (λ outcome. outcome ≡ User exception.now) }
-{
-    match Name::of(alloc, exception) {
-        Ok(name) => Ok(Outcome::User(name)),
-        Err(NameFault::NoMemory) => Err(NoMemory),
-        Err(_) => unreachable!(),
-    }
 }
 
 /// A number's eight bytes, the highest first.
@@ -92,12 +77,12 @@ fn deposit(alloc: Global, balance: u64, amount: i64) -> Result<(u64, Outcome), N
     ensures range { IfOk result (λ next. next.0 < 2 ^ 63) }
 {
     if amount < 0 {
-        let outcome = refusal(alloc, b"BadAmount")?;
+        let outcome = Outcome::user(alloc, b"BadAmount")?;
         return Ok((balance, outcome));
     }
     let sum = balance + amount as u64;
     if sum > LARGEST {
-        let outcome = refusal(alloc, b"Overflow")?;
+        let outcome = Outcome::user(alloc, b"Overflow")?;
         return Ok((balance, outcome));
     }
     let outcome = tell(alloc, sum)?;
@@ -110,12 +95,12 @@ fn withdraw(alloc: Global, balance: u64, amount: i64) -> Result<(u64, Outcome), 
     ensures range { IfOk result (λ next. next.0 < 2 ^ 63) }
 {
     if amount < 0 {
-        let outcome = refusal(alloc, b"BadAmount")?;
+        let outcome = Outcome::user(alloc, b"BadAmount")?;
         return Ok((balance, outcome));
     }
     let amount = amount as u64;
     if balance < amount {
-        let outcome = refusal(alloc, b"Insufficient")?;
+        let outcome = Outcome::user(alloc, b"Insufficient")?;
         return Ok((balance, outcome));
     }
     let rest = balance - amount;

@@ -305,7 +305,7 @@ pub says : (bytes : List ℕ) (q : Contents) → contents_in bytes ≡ Some q �
 unfolding queue contents_in value_in
 says bytes q is = let said = codings.says queue bytes q is in (parts q said.valid, said.spelled)
 
-pub owes : IsCoding queue
+pub owes : IsCoding queue IsLater
 unfolding queue
 owes = record {
   opens = refl;
@@ -315,7 +315,6 @@ owes = record {
   gives = λ q r h fits. ran_gives (operation_of r.op) q r.args (parts q h) fits;
   update_short = λ base later h k. short (since base later) (since_is base later (parts later k));
   update_stays = λ base later u h is. whole later (update_stays_by base (contents_in u) later (parts base h) (λ new e. (says u new e).0) is);
-  Leads = IsLater;
   leads_itself = λ q h. later_itself q;
   leads_on = λ base q r h k fits later. later_ran base (operation_of r.op) q r.args later;
   updates = λ base later h k is.

@@ -3,7 +3,6 @@ use Rattle.std.specs.Prelude.{◌≡◌, ℕ, zero, suc, ◌+◌, ◌-◌, ◌^�
 use Rattle.std.specs.List.{concat, list_all}
 use Rattle.byteorder.specs.Endian.{big_bytes, big_number}
 use Rattle.ft_base.specs.Canonical.{number_at, octets_at}
-use Rattle.ft_base.specs.Coding as codings
 use Rattle.ft_base.specs.Coding.{Coding, machine_of, said}
 use Rattle.ft_base.specs.Machine.{Machine}
 use Rattle.ft_base.specs.declared.requests.Outcome.{Outcome}
@@ -116,7 +115,3 @@ queue = record {
 -- the same over state bytes
 abbrev pub queue_machine : Machine
 queue_machine = machine_of queue
-
--- the state bytes of a queue with these contents
-abbrev pub state_of : Contents → List ℕ
-state_of q = codings.state_of queue q

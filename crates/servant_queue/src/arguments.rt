@@ -13,16 +13,6 @@ use std::alloc::Global;
 /// of memory.
 const LONGEST: usize = 0xffff_fff7;
 
-fn octets(value: Value) -> Bytes
-    requires { type_of value ≡ Octets }
-    ensures { value ≡ values.Octets result }
-{
-    match value {
-        Value::Octets(octets) => octets,
-        _ => unreachable!(),
-    }
-}
-
 /// The octets that arguments say.
 pub fn item_in(alloc: Global, args: &Bytes) -> Result<Bytes, NoMemory>
     requires { IsCanonical (Octets ∷ []) args.now }
@@ -32,5 +22,5 @@ pub fn item_in(alloc: Global, args: &Bytes) -> Result<Bytes, NoMemory>
         return Err(NoMemory);
     }
     let item = read_one(alloc, Par::Octets, args.bytes())?;
-    Ok(octets(item))
+    Ok(item.into_octets())
 }

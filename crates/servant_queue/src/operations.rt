@@ -1,12 +1,11 @@
 ghost use Rattle.std.specs.Prelude.{◌≡◌, ◌≤◌, ◌<◌, ◌^◌, ℕ, [], ◌∷◌, None, length, IfOk};
 ghost use Rattle.ft_base.specs.Canonical as canonical;
-ghost use Rattle.ft_base.specs.Text.{name_refusal};
-ghost use Rattle.ft_base.specs.declared.requests.Outcome.TheVariants.{Value, User};
+ghost use Rattle.ft_base.specs.declared.requests.Outcome.TheVariants.{Value};
 ghost use Rattle.servant_queue.specs.Operations.{operation_of, signature_of};
 ghost use Rattle.servant_queue.specs.Queue.{told};
 
 use cdr_codec::{CdrWriter, Order};
-use ft_base::{Bytes, Name, NameFault, NoMemory, Outcome, Par, Signature};
+use ft_base::{Bytes, Name, NoMemory, Outcome, Par, Signature};
 use std::alloc::Global;
 
 /// What a queue can be asked.
@@ -52,19 +51,6 @@ impl Operation {
             second: None,
             gives,
         }
-    }
-}
-
-/// A user exception of this name.
-pub fn refusal(alloc: Global, exception: &[u8]) -> Result<Outcome, NoMemory>
-    requires short { length exception.now < 256 }
-    requires name { name_refusal exception.now ≡ None }
-    ensures { IfOk result (λ outcome. outcome ≡ User exception.now) }
-{
-    match Name::of(alloc, exception) {
-        Ok(name) => Ok(Outcome::User(name)),
-        Err(NameFault::NoMemory) => Err(NoMemory),
-        Err(_) => unreachable!(),
     }
 }
 

@@ -1,23 +1,19 @@
 ghost use Rattle.std.specs.Prelude.{◌≡◌, ◌≤◌, [], length, drop, Some, option_map, IfOk, OnOk, OnErr};
-ghost use Rattle.ft_base.specs.CodingLaws as codings;
 ghost use Rattle.ft_base.specs.Machine.{FitsAs};
 ghost use Rattle.ft_base.specs.Servants.{JudgesUpdate};
-ghost use Rattle.servant_queue.specs.Laws.{owes};
+ghost use Rattle.servant_queue.specs.Laws.{owes, IsLater};
 ghost use Rattle.servant_queue.specs.Operations.{signature_of};
-ghost use Rattle.servant_queue.specs.Queue.{IsContents, advanced, contents_in, kept, popped_from, pushed, queue_machine, ran, spelled, state_of};
+ghost use Rattle.servant_queue.specs.Queue.{IsContents, advanced, contents_in, kept, popped_from, pushed, queue, ran, spelled};
 
 use crate::arguments::item_in;
 use crate::contents::{
     ITEM_LIMIT, ITEM_SIZE, Item, POPPED_LIMIT, advance, contents_of, copied, spell,
 };
-use crate::operations::{Operation, refusal, tell_item, tell_length};
-use ft_base::{
-    Bytes, Name, NoMemory, Outcome, Request, Servant, Signature, StateFault, Steps, UpdateFault,
-};
+use crate::operations::{Operation, tell_item, tell_length};
+use ft_base::{Bytes, Coded, Name, NoMemory, Outcome, Request, Signature, UpdateFault};
 use std::alloc::Global;
 use std::collections::VecDeque;
 use std::marker::Model;
-use std::sync::ledger::Ledger;
 
 /// A queue (`IDL:ftc/Queue:1.0`). It is seen as the number of items popped since it opened, at most
 /// 2^63, and the items that are there, at most 4,096, the oldest first.
@@ -64,11 +60,11 @@ impl Queue {
     {
         let length = self.items.len();
         if item.len() != ITEM_SIZE {
-            let outcome = refusal(alloc, b"BadItem")?;
+            let outcome = Outcome::user(alloc, b"BadItem")?;
             return Ok(outcome);
         }
         if length >= ITEM_LIMIT {
-            let outcome = refusal(alloc, b"QueueFull")?;
+            let outcome = Outcome::user(alloc, b"QueueFull")?;
             return Ok(outcome);
         }
         let outcome = tell_length(alloc, length as u32 + 1)?;
@@ -87,12 +83,12 @@ impl Queue {
         let oldest = match self.items.front() {
             Some(item) => *item,
             None => {
-                let outcome = refusal(alloc, b"QueueEmpty")?;
+                let outcome = Outcome::user(alloc, b"QueueEmpty")?;
                 return Ok(outcome);
             }
         };
         if self.popped >= POPPED_LIMIT {
-            let outcome = refusal(alloc, b"QueueSpent")?;
+            let outcome = Outcome::user(alloc, b"QueueSpent")?;
             return Ok(outcome);
         }
         let outcome = tell_item(alloc, &oldest)?;
@@ -154,18 +150,7 @@ impl Queue {
         }
     }
 
-    fn equal(&self, alloc: Global) -> Result<Queue, NoMemory>
-        ensures { IfOk result (λ queue. queue ≡ self.now) }
-    {
-        let items = copied(alloc, &self.items)?;
-        Ok(Queue {
-            popped: self.popped,
-            items,
-        })
-    }
-
-    /// Runs an operation.
-    fn run(
+    fn perform(
         &mut self,
         alloc: Global,
         operation: Operation,
@@ -194,86 +179,63 @@ impl Queue {
 /// there; a pop with `QueueEmpty`, and with `QueueSpent` once 2^63 items were popped. A refusal
 /// changes nothing. An update has the number popped by now, and the items pushed since that are
 /// still there.
-impl Servant for Queue {
-    ghost machine = { λ _. queue_machine };
+impl Coded for Queue {
+    ghost coding = { queue };
 
-    ghost kind = { λ _. 0 };
+    ghost leads = { IsLater };
 
-    ghost state = { state_of };
+    #[tactic(auto, using(crate::proofs::States::good))]
+    fn is_sound(&self) {
+        let _popped = self.popped;
+    }
 
-    #[tactic(auto, using(crate::proofs::States::signature_is))]
-    fn signature(&self, op: &Name) -> Option<Signature> {
+    #[tactic(auto, unfolding(crate::specs::Queue::queue))]
+    fn signature_of(op: &Name) -> Option<Signature> {
         match Operation::named(op) {
             Some(operation) => Some(operation.signature()),
             None => None,
         }
     }
 
-    fn invoke<L: Ledger>(
-        &mut self,
-        alloc: Global,
-        request: &Request,
-        steps: &mut Steps<L>,
-    ) -> Result<Outcome, NoMemory> {
-        steps.tick();
-        let operation = match Operation::named(&request.op) {
-            Some(operation) => operation,
+    #[tactic(auto, unfolding(crate::specs::Queue::queue))]
+    fn run(&mut self, alloc: Global, request: &Request) -> Result<Outcome, NoMemory> {
+        match Operation::named(&request.op) {
+            Some(operation) => self.perform(alloc, operation, &request.args),
             None => unreachable!(),
-        };
-        match self.run(alloc, operation, &request.args) {
-            Ok(outcome) => Ok(outcome),
-            Err(NoMemory) => Err(NoMemory),
         }
     }
 
-    fn get_state(&self, alloc: Global) -> Result<Bytes, NoMemory> {
-        let bytes = self.bytes_from(alloc, 0)?;
-        Ok(bytes)
+    #[tactic(auto, unfolding(crate::specs::Queue::queue))]
+    fn spell(&self, alloc: Global) -> Result<Bytes, NoMemory> {
+        self.bytes_from(alloc, 0)
     }
 
-    fn set_state(&mut self, alloc: Global, bytes: &Bytes) -> Result<(), StateFault> {
-        match Queue::from_bytes(alloc, bytes.bytes()) {
-            Ok(Some(queue)) => {
-                *self = queue;
-                Ok(())
-            }
-            Ok(None) => Err(StateFault::InvalidState),
-            Err(NoMemory) => Err(StateFault::NoMemory),
-        }
+    #[tactic(auto, using(crate::proofs::States::value_is))]
+    fn read(alloc: Global, bytes: &Bytes) -> Result<Option<Queue>, NoMemory> {
+        Queue::from_bytes(alloc, bytes.bytes())
     }
 
-    fn get_update(&self, alloc: Global, base: &Queue) -> Result<Bytes, NoMemory> {
-        let bytes = self.bytes_from(alloc, self.kept_of(base))?;
-        Ok(bytes)
+    #[tactic(auto, unfolding(crate::specs::Queue::queue))]
+    fn spell_update(&self, alloc: Global, base: &Queue) -> Result<Bytes, NoMemory> {
+        self.bytes_from(alloc, self.kept_of(base))
     }
 
-    fn set_update(&mut self, alloc: Global, update: &Bytes) -> Result<(), UpdateFault> {
+    #[tactic(auto, unfolding(crate::specs::Queue::queue))]
+    fn take_update(&mut self, alloc: Global, update: &Bytes) -> Result<(), UpdateFault> {
         match Queue::from_bytes(alloc, update.bytes()) {
-            Ok(Some(later)) => match self.join(later) {
-                Ok(()) => Ok(()),
-                Err(fault) => Err(fault),
-            },
+            Ok(Some(later)) => self.join(later),
             Ok(None) => Err(UpdateFault::InvalidUpdate),
             Err(NoMemory) => Err(UpdateFault::NoMemory),
         }
     }
 
-    fn copy(&self, alloc: Global) -> Result<Queue, NoMemory> {
-        let queue = self.equal(alloc)?;
-        Ok(queue)
+    fn equal(&self, alloc: Global) -> Result<Queue, NoMemory> {
+        let items = copied(alloc, &self.items)?;
+        Ok(Queue {
+            popped: self.popped,
+            items,
+        })
     }
 
-    ghost has_state = { codings.has_state owes };
-
-    ghost stays = { λ k. codings.stays owes };
-
-    ghost gives = { λ k. codings.gives owes };
-
-    ghost sized = { λ k. codings.sized owes };
-
-    ghost update_sized = { λ k. codings.update_sized owes };
-
-    ghost update_stays = { λ k. codings.update_stays owes };
-
-    ghost updates = { λ k. codings.updates owes };
+    ghost owes = { owes };
 }

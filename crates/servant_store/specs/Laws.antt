@@ -458,7 +458,7 @@ pub change_says : (bytes : List ℕ) (c : Change) → change_said bytes ≡ Some
 unfolding change_said
 change_says bytes c is = let said = sayings.said_only is_change spelled_change read_change bytes c is in (change_parts c said.0, said.1)
 
-pub owes : IsCoding store
+pub owes : IsCoding store (λ base later. Unit {0})
 unfolding store
 owes = record {
   opens = refl;
@@ -468,7 +468,6 @@ owes = record {
   gives = λ s q h fits. ran_gives (operation_of q.op) s q.args (parts s h) fits;
   update_short = λ base later h k. (let few = length_change (since base later) (since_change base later (parts base h) (parts later k)) in omega (arith, few));
   update_stays = λ base later u h is. whole later (update_stays_by base (change_said u) later (parts base h) (λ c e. (change_says u c e).0) is);
-  Leads = λ base later. Unit {0};
   leads_itself = λ s h. tt;
   leads_on = λ base s q h k fits leads. tt;
   updates = λ base later h k leads.

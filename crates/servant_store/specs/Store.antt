@@ -8,7 +8,6 @@ use Rattle.std.specs.Ordering.{eq_by_cmp, is_lt, nat_cmp}
 use Rattle.std.specs.Str.{bytes_eq}
 use Rattle.byteorder.specs.Endian.{big_bytes, big_number}
 use Rattle.ft_base.specs.Canonical.{number_at, octets_at, padding}
-use Rattle.ft_base.specs.Coding as codings
 use Rattle.ft_base.specs.Coding.{Coding, machine_of, said}
 use Rattle.ft_base.specs.Machine.{Machine}
 use Rattle.ft_base.specs.Text.{zero_place}
@@ -225,7 +224,3 @@ store = record {
 -- the same over state bytes
 abbrev pub store_machine : Machine
 store_machine = machine_of store
-
--- the state bytes of a store with these pairs
-abbrev pub state_of : Pairs → List ℕ
-state_of pairs = codings.state_of store pairs

@@ -23,16 +23,6 @@ fn text(value: Value) -> Bytes
     }
 }
 
-fn octets(value: Value) -> Bytes
-    requires { type_of value ≡ Octets }
-    ensures { value ≡ values.Octets result }
-{
-    match value {
-        Value::Octets(octets) => octets,
-        _ => unreachable!(),
-    }
-}
-
 /// The key that arguments say.
 pub fn key_in(alloc: Global, args: &Bytes) -> Result<Bytes, NoMemory>
     requires { IsCanonical (Text ∷ []) args.now }
@@ -55,5 +45,5 @@ pub fn pair_in(alloc: Global, args: &Bytes) -> Result<(Bytes, Bytes), NoMemory>
         return Err(NoMemory);
     }
     let (key, value) = read_two(alloc, Par::Text, Par::Octets, args.bytes())?;
-    Ok((text(key), octets(value)))
+    Ok((text(key), value.into_octets()))
 }

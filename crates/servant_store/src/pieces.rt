@@ -5,7 +5,7 @@ ghost use Rattle.ft_base.specs.Text.{zero_place};
 ghost use Rattle.byteorder.specs.Endian.{big_number};
 ghost use Rattle.servant_store.specs.Store as words;
 
-use ft_base::NoMemory;
+use ft_base::{NoMemory, first_zero};
 use std::cmp::Ordering;
 
 /// The octet at a place; 0 past the end.
@@ -116,12 +116,6 @@ pub const KEY_LIMIT: usize = 64;
 
 /// The longest value.
 pub const VALUE_LIMIT: usize = 256;
-
-fn first_zero(text: &[u8]) -> Option<usize>
-    ensures { result ≡ zero_place text.now }
-{
-    text.iter().position(|byte| *byte == 0)
-}
 
 fn has_zero(text: &[u8]) -> bool
     ensures { result ≡ is_some (zero_place text.now) }

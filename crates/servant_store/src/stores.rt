@@ -1,23 +1,19 @@
 ghost use Rattle.std.specs.Prelude.{◌≡◌, [], length, Some, option_map, IfOk, OnOk, OnErr};
-ghost use Rattle.ft_base.specs.CodingLaws as codings;
 ghost use Rattle.ft_base.specs.Machine.{FitsAs};
 ghost use Rattle.ft_base.specs.Servants.{JudgesUpdate};
 ghost use Rattle.servant_store.specs.Laws.{owes};
 ghost use Rattle.servant_store.specs.Operations.{signature_of};
-ghost use Rattle.servant_store.specs.Store.{IsStore, advanced, getting, pairs_said, putting, ran, removing, since, spelled, spelled_change, state_of, store_machine};
+ghost use Rattle.servant_store.specs.Store.{IsStore, advanced, getting, pairs_said, putting, ran, removing, since, spelled, spelled_change, store};
 
 use crate::arguments::{key_in, pair_in};
 use crate::changes::{Change, STORE_LIMIT, map_of, spell, update_between};
 use crate::maps::{Map, copied, has, set, take_out, value_at};
-use crate::operations::{Operation, refusal, tell_flag, tell_nothing, tell_size, tell_value};
+use crate::operations::{Operation, tell_flag, tell_nothing, tell_size, tell_value};
 use crate::pieces::{VALUE_LIMIT, is_key};
-use ft_base::{
-    Bytes, Name, NoMemory, Outcome, Request, Servant, Signature, StateFault, Steps, UpdateFault,
-};
+use ft_base::{Bytes, Coded, Name, NoMemory, Outcome, Request, Signature, UpdateFault};
 use std::alloc::Global;
 use std::collections::BTreeMap;
 use std::marker::Model;
-use std::sync::ledger::Ledger;
 
 /// A store (`IDL:ftc/Store:1.0`). It is seen as its keys in ascending order with their values: at most
 /// 256 keys of 1 to 64 bytes, and values of at most 256 bytes.
@@ -65,15 +61,15 @@ impl Store {
     {
         let known = has(&self.pairs, key);
         if !is_key(key) {
-            let outcome = refusal(alloc, b"BadKey")?;
+            let outcome = Outcome::user(alloc, b"BadKey")?;
             return Ok(outcome);
         }
         if value.len() > VALUE_LIMIT {
-            let outcome = refusal(alloc, b"BadValue")?;
+            let outcome = Outcome::user(alloc, b"BadValue")?;
             return Ok(outcome);
         }
         if !known && self.pairs.len() >= STORE_LIMIT {
-            let outcome = refusal(alloc, b"StoreFull")?;
+            let outcome = Outcome::user(alloc, b"StoreFull")?;
             return Ok(outcome);
         }
         let outcome = tell_flag(alloc, !known)?;
@@ -87,12 +83,12 @@ impl Store {
     {
         let found = value_at(&self.pairs, key);
         if !is_key(key) {
-            let outcome = refusal(alloc, b"BadKey")?;
+            let outcome = Outcome::user(alloc, b"BadKey")?;
             return Ok(outcome);
         }
         match found {
             Some(value) => tell_value(alloc, value.as_slice()),
-            None => refusal(alloc, b"NoKey"),
+            None => Outcome::user(alloc, b"NoKey"),
         }
     }
 
@@ -104,11 +100,11 @@ impl Store {
     {
         let known = has(&self.pairs, key);
         if !is_key(key) {
-            let outcome = refusal(alloc, b"BadKey")?;
+            let outcome = Outcome::user(alloc, b"BadKey")?;
             return Ok(outcome);
         }
         if !known {
-            let outcome = refusal(alloc, b"NoKey")?;
+            let outcome = Outcome::user(alloc, b"NoKey")?;
             return Ok(outcome);
         }
         take_out(&mut self.pairs, key);
@@ -122,8 +118,7 @@ impl Store {
         self.pairs.len() as u32
     }
 
-    /// Runs an operation.
-    fn run(
+    fn perform(
         &mut self,
         alloc: Global,
         operation: Operation,
@@ -184,13 +179,6 @@ impl Store {
             Err(NoMemory) => Err(UpdateFault::NoMemory),
         }
     }
-
-    fn equal(&self, alloc: Global) -> Result<Store, NoMemory>
-        ensures { IfOk result (λ store. store ≡ self.now) }
-    {
-        let pairs = copied(alloc, &self.pairs)?;
-        Ok(Store { pairs })
-    }
 }
 
 /// A put of a value, a look at it, its removal, and a look at how many keys there are. They are refused
@@ -198,86 +186,60 @@ impl Store {
 /// has more than 256, and with `StoreFull` where the key is new beside 256; the other two with
 /// `NoKey`. A refusal changes nothing. An update has the keys that are gone, and the pairs that are
 /// new or changed.
-impl Servant for Store {
-    ghost machine = { λ _. store_machine };
+impl Coded for Store {
+    ghost coding = { store };
 
-    ghost kind = { λ _. 0 };
+    ghost leads = { λ _ _. Unit {0} };
 
-    ghost state = { state_of };
+    #[tactic(auto, using(crate::proofs::States::good))]
+    fn is_sound(&self) {
+        let _count = self.pairs.len();
+    }
 
-    #[tactic(auto, using(crate::proofs::States::signature_is))]
-    fn signature(&self, op: &Name) -> Option<Signature> {
+    #[tactic(auto, unfolding(crate::specs::Store::store))]
+    fn signature_of(op: &Name) -> Option<Signature> {
         match Operation::named(op) {
             Some(operation) => Some(operation.signature()),
             None => None,
         }
     }
 
-    fn invoke<L: Ledger>(
-        &mut self,
-        alloc: Global,
-        request: &Request,
-        steps: &mut Steps<L>,
-    ) -> Result<Outcome, NoMemory> {
-        steps.tick();
-        let operation = match Operation::named(&request.op) {
-            Some(operation) => operation,
+    #[tactic(auto, unfolding(crate::specs::Store::store))]
+    fn run(&mut self, alloc: Global, request: &Request) -> Result<Outcome, NoMemory> {
+        match Operation::named(&request.op) {
+            Some(operation) => self.perform(alloc, operation, &request.args),
             None => unreachable!(),
-        };
-        match self.run(alloc, operation, &request.args) {
-            Ok(outcome) => Ok(outcome),
-            Err(NoMemory) => Err(NoMemory),
         }
     }
 
-    fn get_state(&self, alloc: Global) -> Result<Bytes, NoMemory> {
-        let bytes = self.bytes(alloc)?;
-        Ok(bytes)
+    #[tactic(auto, unfolding(crate::specs::Store::store))]
+    fn spell(&self, alloc: Global) -> Result<Bytes, NoMemory> {
+        self.bytes(alloc)
     }
 
-    fn set_state(&mut self, alloc: Global, bytes: &Bytes) -> Result<(), StateFault> {
-        match Store::from_bytes(alloc, bytes.bytes()) {
-            Ok(Some(store)) => {
-                *self = store;
-                Ok(())
-            }
-            Ok(None) => Err(StateFault::InvalidState),
-            Err(NoMemory) => Err(StateFault::NoMemory),
-        }
+    #[tactic(auto, using(crate::proofs::States::value_is))]
+    fn read(alloc: Global, bytes: &Bytes) -> Result<Option<Store>, NoMemory> {
+        Store::from_bytes(alloc, bytes.bytes())
     }
 
-    fn get_update(&self, alloc: Global, base: &Store) -> Result<Bytes, NoMemory> {
-        let bytes = self.update_from(alloc, base)?;
-        Ok(bytes)
+    #[tactic(auto, unfolding(crate::specs::Store::store))]
+    fn spell_update(&self, alloc: Global, base: &Store) -> Result<Bytes, NoMemory> {
+        self.update_from(alloc, base)
     }
 
-    fn set_update(&mut self, alloc: Global, update: &Bytes) -> Result<(), UpdateFault> {
+    #[tactic(auto, unfolding(crate::specs::Store::store))]
+    fn take_update(&mut self, alloc: Global, update: &Bytes) -> Result<(), UpdateFault> {
         match Change::from_bytes(alloc, update.bytes()) {
-            Ok(Some(change)) => match self.take_over(alloc, &change) {
-                Ok(()) => return Ok(()),
-                Err(fault) => return Err(fault),
-            },
+            Ok(Some(change)) => self.take_over(alloc, &change),
             Ok(None) => Err(UpdateFault::InvalidUpdate),
             Err(NoMemory) => Err(UpdateFault::NoMemory),
         }
     }
 
-    fn copy(&self, alloc: Global) -> Result<Store, NoMemory> {
-        let store = self.equal(alloc)?;
-        Ok(store)
+    fn equal(&self, alloc: Global) -> Result<Store, NoMemory> {
+        let pairs = copied(alloc, &self.pairs)?;
+        Ok(Store { pairs })
     }
 
-    ghost has_state = { codings.has_state owes };
-
-    ghost stays = { λ k. codings.stays owes };
-
-    ghost gives = { λ k. codings.gives owes };
-
-    ghost sized = { λ k. codings.sized owes };
-
-    ghost update_sized = { λ k. codings.update_sized owes };
-
-    ghost update_stays = { λ k. codings.update_stays owes };
-
-    ghost updates = { λ k. codings.updates owes };
+    ghost owes = { owes };
 }

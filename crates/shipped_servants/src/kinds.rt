@@ -1,5 +1,8 @@
-ghost use Rattle.std.specs.Prelude.{◌≡◌};
+ghost use Rattle.std.specs.Prelude.{◌≡◌, IfOk};
 ghost use Rattle.shipped_servants.specs.Kinds.{kind_with, type_id};
+
+use ft_base::{Name, NoMemory};
+use std::alloc::Global;
 
 /// A kind of servant that is shipped.
 #[derive(Clone, Copy, Debug, PartialEq, Eq)]
@@ -18,6 +21,16 @@ impl Kind {
             Kind::Account => b"IDL:ftc/Account:1.0",
             Kind::Store => b"IDL:ftc/Store:1.0",
             Kind::Queue => b"IDL:ftc/Queue:1.0",
+        }
+    }
+
+    /// The type id, as a name.
+    pub fn type_name(self, alloc: Global) -> Result<Name, NoMemory>
+        ensures { IfOk result (λ name. name ≡ type_id self) }
+    {
+        match Name::of(alloc, self.type_id()) {
+            Ok(name) => Ok(name),
+            Err(_) => Err(NoMemory),
         }
     }
 

@@ -5,6 +5,7 @@ ghost use Rattle.shipped_servants.specs.Laws as laws;
 use crate::kinds::Kind;
 use ft_base::{
     Bytes, Name, NoMemory, Outcome, Request, Servant, Signature, StateFault, Steps, UpdateFault,
+    ValueServant,
 };
 use servant_account::Account;
 use servant_queue::Queue;
@@ -15,9 +16,9 @@ use std::sync::ledger::Ledger;
 /// A servant of any kind that is shipped.
 #[derive(Drop)]
 pub enum Shipped {
-    Account(Account),
-    Store(Store),
-    Queue(Queue),
+    Account(ValueServant<Account>),
+    Store(ValueServant<Store>),
+    Queue(ValueServant<Queue>),
 }
 
 impl Shipped {
@@ -27,11 +28,11 @@ impl Shipped {
         ensures state { IfOk result (λ servant. kinds.state_of_shipped servant ≡ kinds.opening_of kind) }
     {
         match kind {
-            Kind::Account => Ok(Shipped::Account(Account::new(0))),
-            Kind::Store => Ok(Shipped::Store(Store::new(alloc))),
+            Kind::Account => Ok(Shipped::Account(ValueServant::new(Account::new(0)))),
+            Kind::Store => Ok(Shipped::Store(ValueServant::new(Store::new(alloc)))),
             Kind::Queue => {
                 let queue = Queue::new(alloc)?;
-                Ok(Shipped::Queue(queue))
+                Ok(Shipped::Queue(ValueServant::new(queue)))
             }
         }
     }

@@ -56,6 +56,7 @@ fn answer_reference(
         "group-of" => references::group_of(alloc, words, out),
         "port" => references::port(words, out),
         "id" => references::id(alloc, words, out),
+        "name-of" => references::name_in(alloc, words, out),
         _ => Err(RowFault::NoRow),
     }
 }

@@ -5,8 +5,8 @@ ghost use Rattle.iogr_reference.specs.Formats.{IsWritable, AreShort};
 use cdr_codec::{CdrReader, CdrWriter};
 use ft_base::{Bytes, GroupId, HostNo, Members, Version, View};
 use iogr_reference::{
-    GroupRef, Iiop, Ior, Ports, Profile, from_text, group_of_key, group_ref_of, key_of, object_key,
-    port_of, read_ior, read_profile, ref_of, repository_id, to_text, write_ior,
+    GroupRef, Iiop, Ior, Ports, Profile, from_text, group_of_key, group_ref_of, key_of, name_of_id,
+    object_key, port_of, read_ior, read_profile, ref_of, repository_id, to_text, write_ior,
 };
 use row_words::{
     RowFault, bytes_of, name_of, number, order_of, put_bytes, put_hex, put_separator, put_text,
@@ -222,4 +222,16 @@ pub fn id(alloc: Global, words: &[&str], out: &mut String) -> Result<(), RowFaul
     };
     let id = repository_id(alloc, &name_of(alloc, *name)?)?;
     Ok(put_bytes(id.bytes(), out)?)
+}
+
+/// `name-of BYTES`: the name whose repository id this is.
+pub fn name_in(alloc: Global, words: &[&str], out: &mut String) -> Result<(), RowFault> {
+    let [id] = words else {
+        return Err(RowFault::NoRow);
+    };
+    let id = bytes_of(alloc, *id)?;
+    match name_of_id(alloc, id.as_slice())? {
+        Some(name) => Ok(put_bytes(name.bytes(), out)?),
+        None => Ok(out.push_str("no name")?),
+    }
 }

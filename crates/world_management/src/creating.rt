@@ -82,21 +82,12 @@ fn push_lacking(
     Ok(())
 }
 
-pub(crate) fn type_name(alloc: Global, kind: Kind) -> Result<Name, NoMemory>
-    ensures { IfOk result (λ name. name ≡ type_id kind) }
-{
-    match Name::of(alloc, kind.type_id()) {
-        Ok(name) => Ok(name),
-        Err(_) => Err(NoMemory),
-    }
-}
-
 /// All ten properties as they are for groups of a kind that are made now.
 pub(crate) fn values_of_kind(world: &World, kind: Kind) -> Result<Properties, NoMemory>
     ensures { IfOk result (λ values. values ≡ values_of_kind world.now.settings kind) }
 {
     let alloc = world.alloc();
-    let type_id = type_name(alloc, kind)?;
+    let type_id = kind.type_name(alloc)?;
     match world.properties().get_type_properties(alloc, &type_id) {
         Ok(values) => Ok(values),
         Err(_) => Err(NoMemory),
@@ -120,7 +111,7 @@ fn refusal(alloc: Global, kind: Kind, full: &[Property]) -> Result<Option<Create
     requires { length full.now ≤ 2 ^ 32 }
     ensures { IfOk result (λ why. why ≡ refusal full.now []) }
 {
-    let type_id = type_name(alloc, kind)?;
+    let type_id = kind.type_name(alloc)?;
     let mut factory = Factory::new(alloc);
     match factory.create_object(alloc, &type_id, full) {
         Ok(_made) => Ok(None),

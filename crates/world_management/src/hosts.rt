@@ -8,7 +8,6 @@ ghost use Rattle.script_world.specs.Sound.{IsKeptWorld};
 ghost use Rattle.group_model.specs.Changes.{host_of_change};
 ghost use Rattle.script_groups.specs.Groups.{ScriptGroup as Group, placed};
 
-use crate::creating::type_name;
 use fault_notifier::FaultEvent;
 use fault_script::{LineFault, MemberChange};
 use ft_base::{GroupId, HostNo, Name, NoMemory, Steps};
@@ -84,7 +83,7 @@ fn fault_of(alloc: Global, kind: Kind, group: GroupId, host: HostNo) -> Result<F
         Ok(domain) => domain,
         Err(_) => return Err(NoMemory),
     };
-    let type_id = type_name(alloc, kind)?;
+    let type_id = kind.type_name(alloc)?;
     Ok(FaultEvent {
         domain,
         host,

@@ -1,4 +1,4 @@
-use Rattle.bench_core.specs.Timing.{IsSome}
+use Rattle.group_core.specs.Trying.{IsSome}
 use Rattle.bench_core.proofs.groups.ask_all.Given as goal
 
 -- the core goes on standing for a group

@@ -1,5 +1,5 @@
 use Rattle.group_model.specs.Views.{view_at}
-use Rattle.decision_table.proofs.Gates.{may_be_served}
+use Rattle.decision_table.proofs.Gates.{may_be_served, takes_memory}
 use Rattle.decision_table.proofs.passing.pass.Goals as goal
 
 pub view_of-view-requires : goal.view_of-view-requires
@@ -16,3 +16,11 @@ returns-clause-served g c = λ common is.
     (may_be_served c.views_are_shown.ensures.shown c.logs_tell.ensures.tell g.S.Servant.machine common c.args.log.now c.args.style
     (g.S.Servant.kind c.args.servant.now) c.args.known.0 c.args.host.0 is c.view_of-view.result.now c.view_of-view.ensures c.args.asked
     c.refused_by_view.result rows c.request_named.result c.in_default.is c.request_named.ensures.fits c.request_named.ensures.short)
+
+pub returns-clause-unread : goal.returns-clause-unread
+returns-clause-unread g c = λ common is.
+    let rows = rw (c.newest.ensures.value, c.asked_version-wanted.ensures) at c.refused_by_view.ensures in
+    rw c.told.ensures
+    (takes_memory c.views_are_shown.ensures.shown c.logs_tell.ensures.tell g.S.Servant.machine common c.args.log.now c.args.style
+    (g.S.Servant.kind c.args.servant.now) c.args.known.0 c.args.host.0 is c.view_of-view.result.now c.view_of-view.ensures c.args.asked
+    c.refused_by_view.result rows c.request_named.result c.in_default.is c.request_named.ensures.unread)

@@ -1,5 +1,5 @@
 use Rattle.std.proofs.Common.{length, ◌∙◌, arith, length-drop, ap}
-use Rattle.ft_outside.proofs.Gains.{gains_more}
+use Rattle.ft_outside.specs.Gains.{gains_more}
 use Rattle.ft_outside.proofs.wholes.write_all.Goals as goal
 
 pub loop-done-preserved : goal.loop-done-preserved

@@ -11,7 +11,7 @@ returns-in-Ok-clause-run g c = λ common h host clock request has at.
     let now = seen c.run_next-ran.new.log c.blank-in-AfterExecute.new.self c.run_next-ran.new.steps in
     let can = can_run c.replicas_go_on.ensures.joined c.replicas_go_on.ensures.blank machines common clock request h.place before has in
     let ran = c.in-Ok.ensures.run (joined common (max clock common.time) request) h.place can in
-    rw c.in-AfterExecute.is
+    rw (c.in-AfterExecute.is, c.done-in-Ok.ensures)
     (run_and_stopped c.replicas_go_on.ensures.joined c.replicas_go_on.ensures.blank machines common clock request h host before now c.run_next-ran.new.replica c.args.position c.in-Ok._outcome
     has at ran c.blank-in-AfterExecute.ensures c.run_next-ran.ensures.counted)
 
@@ -22,6 +22,6 @@ returns-in-Ok-run_next-clause-run g c = λ common h host clock request has at.
     let now = seen c.run_next.new.log c.run_next.new.replica c.run_next.new.steps in
     let can = can_run c.replicas_go_on.ensures.joined c.replicas_go_on.ensures.blank machines common clock request h.place before has in
     let ran = c.in-Ok-run_next.ensures.run (joined common (max clock common.time) request) h.place can in
-    rw c.in-Never.is
+    rw (c.in-Never.is, c.done-in-Ok-run_next.ensures)
     (run_and_told c.replicas_go_on.ensures.joined c.replicas_go_on.ensures.blank machines common clock request h host before now c.args.position c.in-Ok-run_next.outcome
     has at ran c.run_next.ensures.counted)

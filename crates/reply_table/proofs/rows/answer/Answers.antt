@@ -1,6 +1,6 @@
-use Rattle.std.proofs.Common.{◌≡◌, ◌∙◌, ap, sym, subst, Some}
+use Rattle.std.proofs.Common.{◌∙◌, ap, sym, subst}
 use Rattle.std.specs.Map.{values_of}
-use Rattle.reply_table.specs.Entries.{with_reply, AreInOrder}
+use Rattle.reply_table.specs.Entries.{AreInOrder}
 use Rattle.reply_table.specs.Ids.{AreFiled}
 use Rattle.reply_table.proofs.Order.{answered_there, filed_there, order_of_answered, unanswered_stay, entry_at_is, value_at}
 use Rattle.reply_table.proofs.rows.answer.Goals as goal

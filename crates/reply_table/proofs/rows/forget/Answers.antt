@@ -1,6 +1,6 @@
-use Rattle.std.proofs.Common.{◌∙◌, ap, sym, not, ◌≡◌, List, ℕ, subst}
+use Rattle.std.proofs.Common.{◌∙◌, ap, sym, not, List, ℕ, subst}
 use Rattle.std.specs.Map.{values_of}
-use Rattle.reply_table.specs.Entries.{is_call}
+use Rattle.ft_base.specs.Journal.{is_call}
 use Rattle.reply_table.specs.Ids.{IsFiledBy}
 use Rattle.reply_table.specs.declared.entries.Retained.{Retained}
 use Rattle.reply_table.proofs.Filed.{removed_by_id, values_of_filter}

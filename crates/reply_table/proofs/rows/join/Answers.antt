@@ -1,10 +1,10 @@
-use Rattle.std.proofs.Common.{◌≡◌, ◌<◌, ◌∙◌, ap, sym, subst, List, [], ◌∷◌, ◌++◌, not, Option, Some}
-use Rattle.std.specs.List.{filter}
+use Rattle.std.proofs.Common.{◌≡◌, ◌<◌, ◌∙◌, ap, sym, subst, List, [], ◌∷◌, ◌++◌, not, Option}
 use Rattle.std.specs.Map.{values_of}
 use Rattle.std.proofs.lemmas.Map.{lookup-none, NonePasses}
 use Rattle.indexmap.proofs.CallerLemmas.{insert_entry-new}
 use Rattle.ft_base.specs.declared.requests.Key.{Key}
-use Rattle.reply_table.specs.Entries.{is_call, joined, without, AreInOrder}
+use Rattle.ft_base.specs.Journal.{is_call}
+use Rattle.reply_table.specs.Entries.{joined, without, AreInOrder}
 use Rattle.reply_table.specs.Ids.{AreFiled, IsFiledAs}
 use Rattle.reply_table.specs.declared.entries.Retained.{Retained}
 use Rattle.reply_table.proofs.Filed.{with_id, same_ids, none_of_others, values_of_push, all_of_filter, all_of_push}

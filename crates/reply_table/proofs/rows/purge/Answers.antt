@@ -1,8 +1,9 @@
-use Rattle.std.proofs.Common.{◌≡◌, ◌∙◌, ap, sym, subst, rules, List}
+use Rattle.std.proofs.Common.{◌≡◌, ◌∙◌, ap, sym, subst, rules}
 use Rattle.std.specs.List.{filter}
 use Rattle.std.specs.Map.{values_of}
 use Rattle.indexmap.proofs.CallerLemmas.{filter-RetainsPairs}
-use Rattle.reply_table.specs.Entries.{is_unexpired, AreInOrder}
+use Rattle.ft_base.specs.Journal.{is_unexpired}
+use Rattle.reply_table.specs.Entries.{AreInOrder}
 use Rattle.reply_table.specs.Ids.{AreFiled, IsFiledAs}
 use Rattle.reply_table.specs.declared.entries.Retained.{Retained}
 use Rattle.reply_table.proofs.Filed.{values_of_filter, all_of_filter}

@@ -1,4 +1,4 @@
-use Rattle.std.proofs.Common.{rules, ◌≡◌, ◌<◌, ◌≤◌, ◌^◌, ℕ, List, get_or, length, Some, ap, arith, refl, subst, sym, ◌∙◌}
+use Rattle.std.proofs.Common.{rules, ◌≡◌, ◌<◌, ◌≤◌, ◌^◌, ℕ, List, get_or, length, Some, ap, arith, subst, sym, ◌∙◌}
 use Rattle.byteorder.specs.Endian.{big_number}
 use Rattle.servant_account.proofs.States.{balance_said, unsaid_by_length, unsaid_by_sign}
 use Rattle.servant_account.proofs.operations.balance_in.Goals as goal

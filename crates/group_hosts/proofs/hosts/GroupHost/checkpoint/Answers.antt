@@ -10,7 +10,7 @@ pub returns-in-Err-clause-turn : goal.returns-in-Err-clause-turn
 returns-in-Err-clause-turn g c = λ group here.
     let machines = g.S.Servant.machine in
     let here' = rw (← c.self.view_is) at here in
-    let unready = c.in-Err.ensures.stopped group.common (group.hosts c.args.host.0) c.args.style here in
+    let unready = c.in-Err.ensures.stopped group.common (group.hosts c.args.host.0) c.args.founding.now.style here in
     short_unready machines group _ (events.Checkpoint c.args.host c.args.clock) _ here' _ (checkpoint_takes machines group _ c.args.host _ here' c.if-not-self.false c.args.clock)
     c.args.steps.now c.prepare.new.steps unready.1 c.prepare.new.log c.prepare.new.self unready.0
 
@@ -18,7 +18,7 @@ pub take_checkpoint-requires : goal.take_checkpoint-requires
 take_checkpoint-requires g c =
     let r = c.requires in
     let h = r.0.hosts c.args.host.0 in
-    let done = c.in_default.ensures.ready r.0.common h c.args.style r.1 in
+    let done = c.in_default.ensures.ready r.0.common h c.args.founding.now.style r.1 in
     let ready = rw (← c.self-2.view_is) at done.0 in (
       with_ran (length r.0.common.journal) r.0.common,
       taking r.0.common h,
@@ -30,8 +30,8 @@ returns-clause-turn g c = λ group here.
     let machines = g.S.Servant.machine in
     let here' = rw (← c.self.view_is) at here in
     let h = group.hosts c.args.host.0 in
-    let done = c.in_default.ensures.ready group.common h c.args.style here in
+    let done = c.in_default.ensures.ready group.common h c.args.founding.now.style here in
     let ready = rw (← c.self-2.view_is) at done.0 in
-    let can : CanTake machines (with_ran (length group.common.journal) group.common) (taking group.common h) c.args.style c.prepare.new.log c.self-2.inside.replica = record { style = here.style; log = ready.log; replica = ready.host.replica; caught_up = ready.caught_up } in
+    let can : CanTake machines (with_ran (length group.common.journal) group.common) (taking group.common h) c.args.founding.now.style c.prepare.new.log c.self-2.inside.progress.replica = record { style = here.style; log = ready.log; replica = ready.host.replica; caught_up = ready.caught_up } in
     checkpoint_given machines group _ c.args.host _ here' c.if-not-self.false c.args.clock c.take_checkpoint.result c.args.steps.now c.prepare.new.steps c.prepare.new.log c.take_checkpoint.new.log _ c.take_checkpoint.new.replica
     ready (c.take_checkpoint.ensures.given (with_ran (length group.common.journal) group.common) (taking group.common h) can) done.1

@@ -9,7 +9,7 @@ pub returns-in-Err-clause-stopped : goal.returns-in-Err-clause-stopped
 returns-in-Err-clause-stopped g c = λ common h style here.
     let machines = g.S.Servant.machine in
     let here' = rw (← c.self.view_is) at here in
-    let now = parts c.catch_up_here.new.log c.catch_up_here.new.replica c.catch_up_here.new.holdback c.catch_up_here.new.steps in
+    let now = parts c.catch_up_here.new.log c.catch_up_here.new.progress.replica c.catch_up_here.new.progress.holdback c.catch_up_here.new.steps in
     let can = informed_can machines common h _ _ here' c.args.steps.now in
     let newest = ap (λ (v : View). v.version) c.newest.ensures.value in
     unready_of machines common h _ _ here' c.logs_tell.ensures.tell c.newest.result.now.version c.args.steps.now now newest (c.in-Err.ensures.stopped common (informed common h) can)
@@ -18,7 +18,7 @@ pub returns-clause-ready : goal.returns-clause-ready
 returns-clause-ready g c = λ common h style here.
     let machines = g.S.Servant.machine in
     let here' = rw (← c.self.view_is) at here in
-    let now = parts c.catch_up_here.new.log c.catch_up_here.new.replica c.catch_up_here.new.holdback c.catch_up_here.new.steps in
+    let now = parts c.catch_up_here.new.log c.catch_up_here.new.progress.replica c.catch_up_here.new.progress.holdback c.catch_up_here.new.steps in
     let can = informed_can machines common h _ _ here' c.args.steps.now in
     let newest = ap (λ (v : View). v.version) c.newest.ensures.value in (
       ready_of machines common h _ _ here' c.logs_tell.ensures.tell c.newest.result.now.version now newest (c.in_default.ensures.caught_up common (informed common h) can),

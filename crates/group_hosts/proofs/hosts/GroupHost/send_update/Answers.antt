@@ -32,6 +32,6 @@ returns-clause-turn g c = λ group style here.
     let h = group.hosts c.args.host.0 in
     let done = c.in_default.ensures.ready group.common h style here in
     let ready = rw (← c.self-2.view_is) at done.0 in
-    let can : CanTake machines (with_ran (length group.common.journal) group.common) (taking group.common h) group.common.style c.prepare.new.log c.self-2.inside.replica = record { style = refl; log = ready.log; replica = ready.host.replica; caught_up = ready.caught_up } in
+    let can : CanTake machines (with_ran (length group.common.journal) group.common) (taking group.common h) group.common.style c.prepare.new.log c.self-2.inside.progress.replica = record { style = refl; log = ready.log; replica = ready.host.replica; caught_up = ready.caught_up } in
     update_given machines group _ c.args.host _ here' c.if-not-self.false c.take_changes.result c.args.steps.now c.prepare.new.steps c.prepare.new.log _ c.take_changes.new.replica
     ready (c.take_changes.ensures.given (with_ran (length group.common.journal) group.common) (taking group.common h) can) done.1

@@ -1,0 +1,12 @@
+use Rattle.std.proofs.Common.{length, ◌∙◌, arith, length-drop, ap}
+use Rattle.ft_outside.specs.Gains.{gains_more}
+use Rattle.outside_links.proofs.sending.send_all.Goals as goal
+
+pub loop-done-preserved : goal.loop-done-preserved
+loop-done-preserved g c = (
+  omega (arith, c.in-Took.ensures.written.1, ap length c.behind.ensures, length-drop c.loop-done.done c.args.text.now),
+  gains_more _ _ _ c.args.text.now c.behind.result.now c.loop-done.done c.in-Took.count c.behind.ensures c.in-Took.ensures.written.2 c.loop-done.invariant.1,
+  c.in-Took.ensures.written.3 ∙ c.loop-done.invariant.2,
+  c.in-Took.ensures.left ∙ c.loop-done.invariant.3,
+  c.in-Took.ensures.closed ∙ c.loop-done.invariant.4,
+)

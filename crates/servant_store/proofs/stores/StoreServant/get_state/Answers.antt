@@ -1,6 +1,0 @@
-use Rattle.std.proofs.Common.{◌∙◌}
-use Rattle.servant_store.proofs.States.{bytes_of_state}
-use Rattle.servant_store.proofs.stores.StoreServant.get_state.Goals as goal
-
-pub returns : goal.returns
-returns c = c.in_ok-bytes.ensures.spelled ∙ bytes_of_state c.args.self.now c.in_ok-bytes.ensures.sound
