@@ -1,7 +1,6 @@
 -- Replies can be written: with its header none is over 1 MiB.
-use Rattle.std.proofs.Common.{◌≡◌, ◌≤◌, ℕ, ◌+◌, true, false, List, [], ◌∷◌, ◌++◌, length, replicate, refl, length-append, arith, lit≤, lit<, Bool, cond, ap, sym, subst, ◌∙◌, ltb, lt-ltb}
-use Rattle.std.proofs.lemmas.List.{length-replicate}
-use Rattle.std.specs.Prelude.{◌==◌, ◌||◌, ◌&&◌, ◌<◌, not, nat_lt}
+use Rattle.std.proofs.Common.{◌≡◌, ◌≤◌, ℕ, ◌+◌, true, false, List, [], ◌∷◌, ◌++◌, length, refl, length-append, arith, lit<, Bool, cond, ap, sym, subst, ◌∙◌, lt-ltb}
+use Rattle.std.specs.Prelude.{◌==◌, ◌||◌, ◌&&◌, ◌<◌, nat_lt}
 use Rattle.ft_base.specs.declared.requests.Outcome.TheVariants.{Value, User}
 use Rattle.ft_base.specs.Canonical.{padding}
 use Rattle.cdr_codec.specs.declared.orders.Order.{Order}
@@ -15,12 +14,12 @@ use Rattle.giop_messages.specs.declared.heads.Kind.TheVariants as kinds
 use Rattle.giop_messages.specs.declared.messages.Message.TheVariants as messages
 use Rattle.giop_messages.specs.declared.messages.ReplyMsg.{ReplyMsg}
 use Rattle.giop_messages.specs.declared.statuses.TheConstants.{SYSTEM_EXCEPTION, LOCATION_FORWARD, LOCATION_FORWARD_PERM}
-use Rattle.giop_messages.specs.Heads.{either, has_kind, header, kind_sign}
+use Rattle.giop_messages.specs.Heads.{either, header}
 use Rattle.giop_messages.specs.Fields.{locate_reply, locate_statuses, reply_fields_1_2, reply_fields_1_0, statuses_1_2, statuses_1_0, reply_statuses, reply_head}
-use Rattle.giop_messages.specs.Messages.{giop, align_at, body_align, body_boundary, head_of_reply, kind_in}
+use Rattle.giop_messages.specs.Messages.{giop, align_at, body_align, body_boundary}
 use Rattle.giop_messages.specs.Writing.{end_of, padded_body, whole_head, written_message, IsAmong, Writable}
 use Rattle.host_server.specs.declared.answers.PortAnswer.{PortAnswer}
-use Rattle.host_server.specs.declared.answers.PortAnswer.TheVariants.{NoGroup, Forward, Done, System}
+use Rattle.host_server.specs.declared.answers.PortAnswer.TheVariants.{NoGroup, Forward, Done, System, Down, NoMemory}
 use Rattle.host_server.specs.Replies.{locate_status_of, locate_reply_to, outcome_status, status_of, IsShortBody}
 
 headed_in : (minor : ℕ) (order : Order) (k : Kind) (size : ℕ) → length (header.written Big 0 (whole_head (giop minor order) k size)) ≡ HEAD_LENGTH
@@ -92,6 +91,8 @@ status_by new NoGroup = SYSTEM_EXCEPTION
 status_by new (Forward perm body) = cond (perm && new) LOCATION_FORWARD_PERM LOCATION_FORWARD
 status_by new (Done outcome gives) = outcome_status outcome
 status_by new (System fault) = SYSTEM_EXCEPTION
+status_by new Down = SYSTEM_EXCEPTION
+status_by new NoMemory = SYSTEM_EXCEPTION
 
 among : (new : Bool) (answer : PortAnswer) → IsAmong (cond new statuses_1_2 statuses_1_0) (status_by new answer)
 among true NoGroup = refl
@@ -100,18 +101,24 @@ among true (Forward false body) = refl
 among true (Done (Value value) gives) = refl
 among true (Done (User name) gives) = refl
 among true (System fault) = refl
+among true Down = refl
+among true NoMemory = refl
 among false NoGroup = refl
 among false (Forward true body) = refl
 among false (Forward false body) = refl
 among false (Done (Value value) gives) = refl
 among false (Done (User name) gives) = refl
 among false (System fault) = refl
+among false Down = refl
+among false NoMemory = refl
 
 status_is : (minor : ℕ) (answer : PortAnswer) → status_of minor answer ≡ status_by (minor == 2) answer
 status_is minor NoGroup = refl
 status_is minor (Forward perm body) = refl
 status_is minor (Done outcome gives) = refl
 status_is minor (System fault) = refl
+status_is minor Down = refl
+status_is minor NoMemory = refl
 
 status_among : (minor : ℕ) (answer : PortAnswer) → IsAmong (reply_statuses minor) (status_of minor answer)
 status_among minor answer = subst (IsAmong (reply_statuses minor)) (sym (status_is minor answer)) (among (minor == 2) answer)

@@ -21,7 +21,16 @@ use Rattle.giop_messages.specs.declared.messages.Message.{Message}
 use Rattle.giop_messages.specs.declared.messages.Message.TheVariants.{Reply, LocateReply}
 use Rattle.host_server.specs.declared.answers.PortAnswer.{PortAnswer}
 use Rattle.host_server.specs.declared.limits.TheConstants.{BODY_LIMIT, PART_LIMIT}
-use Rattle.host_server.specs.declared.answers.PortAnswer.TheVariants.{NoGroup, Forward, Done, System}
+use Rattle.host_server.specs.declared.answers.PortAnswer.TheVariants.{NoGroup, Forward, Done, System, Down, NoMemory}
+
+-- a Reply goes back with an answer, unless the host is down or memory was wanted
+abbrev pub IsReply : PortAnswer → Type 0
+IsReply NoGroup = Unit {0}
+IsReply (Forward perm body) = Unit {0}
+IsReply (Done outcome gives) = Unit {0}
+IsReply (System fault) = Unit {0}
+IsReply Down = ⊥
+IsReply NoMemory = ⊥
 
 -- ---- bodies
 
@@ -37,11 +46,14 @@ abbrev pub outcome_body : Order → Option Par → Outcome → List ℕ
 outcome_body order gives (Value value) = reordered order (one_of gives) value
 outcome_body order gives (User name) = text.written order 0 (repository_id name)
 
+-- what is no Reply has no body
 abbrev pub body_of : Order → PortAnswer → List ℕ
 body_of order NoGroup = fault_body order no_group
 body_of order (Forward perm body) = ior.written order 0 body
 body_of order (Done outcome gives) = outcome_body order gives outcome
 body_of order (System fault) = fault_body order fault
+body_of order Down = []
+body_of order NoMemory = []
 
 -- short enough for a Reply that with its header isn't over 1 MiB
 abbrev pub IsShortBody : List ℕ → Type 0
@@ -62,6 +74,8 @@ status_of minor NoGroup = SYSTEM_EXCEPTION
 status_of minor (Forward perm body) = forward_status minor perm
 status_of minor (Done outcome gives) = outcome_status outcome
 status_of minor (System fault) = SYSTEM_EXCEPTION
+status_of minor Down = SYSTEM_EXCEPTION
+status_of minor NoMemory = SYSTEM_EXCEPTION
 
 abbrev pub locate_status_of : Bool → ℕ
 locate_status_of here = if here then OBJECT_HERE else UNKNOWN_OBJECT
@@ -106,3 +120,5 @@ CanReply order NoGroup = Unit {0}
 CanReply order (Forward perm body) = IsForward order body
 CanReply order (Done outcome gives) = CanGive gives outcome
 CanReply order (System fault) = OnUnknown fault.kind IsShortId
+CanReply order Down = ⊥
+CanReply order NoMemory = ⊥

@@ -19,4 +19,8 @@ pub enum PortAnswer {
     },
     /// A system exception.
     System(SysFault),
+    /// Nothing: the host is down.
+    Down,
+    /// Nothing: memory was wanted.
+    NoMemory,
 }

@@ -79,5 +79,6 @@ pub fn body_bytes(alloc: Global, order: Order, answer: &PortAnswer) -> Result<By
         PortAnswer::Forward { perm: _, body } => forward_body(alloc, order, body),
         PortAnswer::Done { outcome, gives } => outcome_bytes(alloc, order, *gives, outcome),
         PortAnswer::System(fault) => system_body(alloc, order, fault),
+        PortAnswer::Down | PortAnswer::NoMemory => unreachable!(),
     }
 }

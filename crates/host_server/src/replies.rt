@@ -43,6 +43,7 @@ fn status_of(minor: u8, answer: &PortAnswer) -> u32
         PortAnswer::Forward { perm, body: _ } => forward_status(minor, *perm),
         PortAnswer::Done { outcome, gives: _ } => outcome_status(outcome),
         PortAnswer::System(_) => SYSTEM_EXCEPTION,
+        PortAnswer::Down | PortAnswer::NoMemory => SYSTEM_EXCEPTION,
     }
 }
 

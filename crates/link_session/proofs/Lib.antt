@@ -1,2 +1,3 @@
+pub mod Nil
 pub mod References
 pub mod Spelled

@@ -1,16 +1,18 @@
--- In the midst of a link: what was served so far. The laws here are what a loop over a session rests on.
-use Rattle.std.proofs.Common.{◌≡◌, ℕ, List, [], ◌∷◌, ◌++◌, Option, Some, None, Ok, refl, sym, ap, subst, ◌∙◌, append-nil}
+-- In the midst of a link where a message's work is a function of the host's owner: the laws of loops, as equations.
+use Rattle.std.proofs.Common.{◌≡◌, ℕ, List, [], ◌∷◌, ◌++◌, Option, Some, None, refl, sym, ap, subst, ◌∙◌, append-nil}
 use Rattle.giop_messages.specs.declared.forms.Form.{Form}
 use Rattle.giop_messages.specs.declared.messages.Message.{Message}
 use Rattle.giop_stream.specs.declared.sessions.SessionStep.{SessionStep}
 use Rattle.giop_stream.specs.declared.sessions.SessionStep.TheVariants as steps
 use Rattle.giop_stream.specs.declared.sessions.StreamEnd.{StreamEnd}
 use Rattle.giop_stream.specs.Parts.{Received}
-use Rattle.giop_stream.specs.Sessions.{AreAll, Goes, Serves, Serving, Session, served_before, served_on, session}
+use Rattle.giop_stream.specs.Sessions.{AreAll, Serves, Serving, Session, served_before, served_on, session}
 use Rattle.group_model.specs.declared.asking.Asked.{Asked}
 use Rattle.link_session.specs.declared.calls.Calling.{Calling}
 use Rattle.link_session.specs.declared.calls.Calling.TheVariants.{Ask, Locate, Nothing}
 use Rattle.link_session.specs.Calls.{calling_of}
+use Rattle.link_session.specs.Exchanges.{Leads}
+use Rattle.link_session.specs.Loops as loops
 use Rattle.link_session.specs.Ports.{Port, Replying, called, end_error, ended, linked, locate_reply_of, reply_of, served, session_served, step, writes}
 
 module _ {P : Type 0} (port : Port P) where
@@ -35,55 +37,48 @@ module _ {P : Type 0} (port : Port P) where
 
   -- ---- in the midst of a link
 
+  abbrev pub StepsTo : P → Received → P → Type 0
+  StepsTo old m new = new ≡ step port old m.0 m.1
+
+  -- what these messages lead to is what is served of them
+  pub leads_served : (p now : P) (ms : List Received) → Leads StepsTo p ms now → served port p ms ≡ now
+  unfolding Leads served
+  leads_served p now [] a = sym a
+  leads_served p now (m ∷ ms) a = ap (λ (q : P). served port q ms) (sym a.1) ∙ leads_served a.0 now ms a.2
+
   -- These bytes of the link were fed, and the messages that the session gave were served; now the host's owner
   -- stands so.
-  pub record IsAmid (p : P) (fed : List ℕ) (s : Serving) (now : P) : Type 0 where
-    pub given : List Received
-    pub serves : Serves s fed given
-    pub so : served port p given ≡ now
+  abbrev pub IsAmid : P → List ℕ → Serving → P → Type 0
+  IsAmid p fed s now = loops.IsAmid StepsTo p fed s now
+
+  abbrev pub Steps : SessionStep → List ℕ → Serving → Serving → Type 0
+  Steps o fed s t = loops.Steps o fed s t
 
   -- the session was made, and fed the link
   pub begins : (p now : P) (fed : List ℕ) (s : Serving) → now ≡ p → Serves s fed [] → IsAmid p fed s now
-  begins p now fed s is serves = record { given = []; serves = serves; so = served_none p ∙ sym is }
-
-  -- what a step of the session leaves
-  abbrev pub Steps : SessionStep → List ℕ → Serving → Serving → Type 0
-  Steps o fed s t = (given : List Received) → Serves s fed given → Goes (Ok o) fed given t
+  begins p now fed s is serves = subst (λ (q : P). IsAmid p fed s q) (sym is) (loops.begins StepsTo p fed s serves)
 
   -- it gave a message, which was served
   pub goes_on : (p : P) (fed : List ℕ) (s t : Serving) (now next : P) (o : SessionStep) (m : Received) → IsAmid p fed s now → o ≡ steps.Serve m →
       Steps o fed s t → next ≡ step port now m.0 m.1 → IsAmid p fed t next
-  goes_on p fed s t now next o m a is goes served_so = record {
-    given = a.given ++ m ∷ [];
-    serves = subst (λ (x : SessionStep). Goes (Ok x) fed a.given t) is (goes a.given a.serves);
-    so = served_last p a.given m ∙ ap (λ (q : P). step port q m.0 m.1) a.so ∙ sym served_so;
-  }
-
-  -- whatever else it did, the messages so far are served
-  pub stays : (p : P) (fed : List ℕ) (s t : Serving) (now : P) → IsAmid p fed s now → ((given : List Received) → Serves s fed given → Serves t fed given) →
-      IsAmid p fed t now
-  stays p fed s t now a serves = record { given = a.given; serves = serves a.given a.serves; so = a.so }
+  goes_on p fed s t now next o m a is goes served_so = loops.goes_on StepsTo p fed s t now next o m a is goes served_so
 
   -- ---- the end
 
-  ends_by : (p : P) (fed : List ℕ) (now : P) (given : List Received) (end : StreamEnd) → served port p given ≡ now →
-      session fed ≡ record { messages = given; end = end } → linked port p fed ≡ ended port now end
-  ends_by p fed now given end so is = ap (λ (s : Session). session_served port p s) is ∙ ap (λ (q : P). ended port q end) so
+  over : (p : P) (fed : List ℕ) (now : P) (end : StreamEnd) → loops.IsOver StepsTo p fed end now → linked port p fed ≡ ended port now end
+  over p fed now end o =
+      ap (λ (s : Session). session_served port p s) o.is ∙ ap (λ (q : P). ended port q end) (leads_served p now o.given o.so)
 
   -- the session told its end
   pub ends : (p : P) (fed : List ℕ) (s t : Serving) (now : P) (o : SessionStep) (end : StreamEnd) → IsAmid p fed s now → o ≡ steps.End end → Steps o fed s t →
       linked port p fed ≡ ended port now end
-  ends p fed s t now o end a is goes =
-      let over = (subst (λ (x : SessionStep). Goes (Ok x) fed a.given t) is (goes a.given a.serves)).1 in
-      ends_by p fed now a.given end a.so (ap session (sym (append-nil fed)) ∙ over [])
+  ends p fed s t now o end a is goes = over p fed now end (loops.ends StepsTo p fed s t now o end a is goes)
 
   -- it waits for more bytes, and none come
   pub ends_waiting : (p : P) (fed : List ℕ) (s t : Serving) (now : P) (o : SessionStep) (end : StreamEnd) → IsAmid p fed s now → o ≡ steps.Wait → Steps o fed s t →
       ((given : List Received) → Serves t fed given → AreAll fed given → session fed ≡ record { messages = given; end = end }) →
       linked port p fed ≡ ended port now end
-  ends_waiting p fed s t now o end a is goes at_end =
-      let waits = subst (λ (x : SessionStep). Goes (Ok x) fed a.given t) is (goes a.given a.serves) in
-      ends_by p fed now a.given end a.so (at_end a.given waits.0 waits.1)
+  ends_waiting p fed s t now o end a is goes at_end = over p fed now end (loops.ends_waiting StepsTo p fed s t now o end a is goes at_end)
 
   -- ---- what never falls along a link
 
@@ -125,5 +120,5 @@ module _ {P : Type 0} (port : Port P) where
         let on : linked port p fed ≡ session_served port now rest =
         ap (λ (t : Session). session_served port p t) is
         ∙ ap (λ (q : P). ended port q rest.end) (served_join p a.given rest.messages)
-        ∙ ap (λ (q : P). session_served port q rest) a.so in
+        ∙ ap (λ (q : P). session_served port q rest) (leads_served p now a.given a.so) in
         subst (λ (q : P). R now q) (sym on) (session_grows now rest)

@@ -1,7 +1,10 @@
 pub mod Amid
 pub mod Asked
 pub mod Calls
+pub mod Exchanges
+pub mod Functions
+pub mod Loops
 pub mod Ports
 pub mod References
 pub mod Samples
-pub mod Stepping
+pub mod Serving

@@ -1,8 +1,10 @@
 //! What a host makes of a link's messages, without sockets and without a world: what each message calls
 //! for, what is written to it, and how the link ends. (GIOP chapter, "GIOP Message Transfer".)
 //!
-//! `specs/` say it over a port, which is whatever answers requests (`Port`): `step` of a message, `served`
-//! of a session's messages, `linked` of a link's bytes.
+//! `specs/` say it over whatever answers requests. A port is a relation on passes, of what is exchanged with it
+//! (`Exchanges`): what a message comes to is `IsStepped`, and the bytes that answer a link are `served` of its messages
+//! and of the turns that they take (`Serving`). A port that is a function (`Ports`) is an instance (`Functions`). `Loops`
+//! has the laws of a loop over a session.
 //!
 //! A host serves a link: `take` answers a message by [`step`], and `end` writes what [`end_bytes`] says.
 //!
@@ -16,8 +18,11 @@
 //! ```
 //!
 //! ```
-//! let bytes = step(alloc, &Lonely, written, HostNo(0), received)?;
-//! written.write(bytes)
+//! match step(alloc, &Lonely, written, HostNo(0), received)? {
+//!     Stepped::Write(bytes) => written.push(bytes),
+//!     Stepped::Silent => Ok(()),
+//!     Stepped::Down => Err(NoMemory),
+//! }
 //! ```
 #![tactic(auto)]
 
@@ -34,4 +39,4 @@ pub use asking::asked_of;
 pub use calls::{Calling, calling_of};
 pub use host_server::locate_reply_bytes;
 pub use laws::view_references_can_be_sent;
-pub use ports::{GroupPort, step};
+pub use ports::{GroupPort, Stepped, step};

@@ -139,6 +139,7 @@ fn size_of(alloc: Global, answer: &PortAnswer) -> Result<u128, RowFault>
         PortAnswer::Done { outcome, gives } => Ok(outcome_size(*gives, outcome)),
         PortAnswer::System(fault) => Ok(fault_size(fault)),
         PortAnswer::Forward { perm: _, body } => Ok(forward_size(alloc, body)?),
+        PortAnswer::Down | PortAnswer::NoMemory => unreachable!(),
     }
 }
 

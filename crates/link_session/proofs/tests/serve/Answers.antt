@@ -1,5 +1,5 @@
 use Rattle.std.proofs.Common.{◌≡◌, ℕ, IfOk, List, [], subst, sym}
-use Rattle.link_session.specs.Amid.{begins, ends, goes_on}
+use Rattle.link_session.specs.Amid.{begins, ends, ends_waiting, goes_on}
 use Rattle.link_session.specs.Samples.{lonely}
 use Rattle.link_session.proofs.tests.serve.Goals as goal
 
@@ -18,3 +18,10 @@ returns-in-Ok-End c =
     ends lonely [] c.args.link.now c.messages.session c.next.new.self c.messages.written c.in-Ok-End.field-0 c.in-Ok-End.how c.messages.invariant
     c.in-Ok-End.field-0-is (c.in-Ok-End.ensures.next c.args.link.now) in
     subst (λ (x : List (List ℕ)). IfOk c.end-in-Ok-End.result (λ all. all ≡ x)) (sym e) c.end-in-Ok-End.ensures
+
+pub returns-in-Ok-Wait : goal.returns-in-Ok-Wait
+returns-in-Ok-Wait c =
+    let e =
+    ends_waiting lonely [] c.args.link.now c.messages.session c.next.new.self c.messages.written c.in-Ok-Wait.field-0 c.at_end.result c.messages.invariant
+    c.in-Ok-Wait.field-0-is (c.in-Ok-Wait.ensures.next c.args.link.now) (c.at_end.ensures c.args.link.now) in
+    subst (λ (x : List (List ℕ)). IfOk c.end.result (λ all. all ≡ x)) (sym e) c.end.ensures

@@ -1,0 +1,3 @@
+pub mod Amid
+pub mod Going
+pub mod Lists
