@@ -1,3 +1,4 @@
+pub mod Dropping
 pub mod Running
 pub mod Orders
 pub mod Sends

@@ -16,14 +16,14 @@ use Rattle.active_sequencer.specs.declared.ordering.Ordered.{Ordered}
 use Rattle.active_sequencer.specs.declared.ordering.Ordered.TheVariants.{Applied, Held, NoMemory}
 
 -- what is held with the order may be run
-pub may_run : OrdersAreHeld → (machines : ℕ → Machine) (c : Common) (h : Host) (i : ℕ) (request : Request) (before : Seen) (orders held : List HeldOrder) →
-    CanOrder machines c h i request before → before.replica.loaded ≡ true → before.replica.position ≤ i → orders ≡ held → held ≡ with_order i request before.orders →
+pub may_run : OrdersAreHeld → (machines : ℕ → Machine) (c : Common) (h : Host) (i : ℕ) (request : Request) (before : Seen) (orders : List HeldOrder) →
+    CanOrder machines c h i request before → before.replica.loaded ≡ true → before.replica.position ≤ i → orders ≡ with_order i request before.orders →
     CanRun machines c h.place (with_number i h.holdback) orders before.replica
-may_run law machines c h i request before orders held can loaded low same is = record {
+may_run law machines c h i request before orders can loaded low is = record {
   sound = can.sound;
   replica = can.replica;
   held =
-      subst (HoldStands c.journal c.ran h.place.position (with_number i h.holdback)) (sym (same ∙ is))
+      subst (HoldStands c.journal c.ran h.place.position (with_number i h.holdback)) (sym is)
       (law c h.place.position h.holdback before.orders can.held i request can.order (omega (arith, low, can.replica.position)));
   loaded = sym can.replica.loaded ∙ loaded;
 }
@@ -48,9 +48,9 @@ turn_is c h i loaded low = go h.place.loaded (nat_lt i h.place.position) loaded 
     go true true e f = absurd cc
     go false d e f = absurd cc
 
-module _ (law : HoldbacksAreDropped) (machines : ℕ → Machine) (c : Common) (h : Host) (i : ℕ) (request : Request) (before : Seen) (orders held left : List HeldOrder) (replica : ReplicaPicture) (steps position : ℕ)
+module _ (law : HoldbacksAreDropped) (machines : ℕ → Machine) (c : Common) (h : Host) (i : ℕ) (request : Request) (before : Seen) (orders left : List HeldOrder) (replica : ReplicaPicture) (steps position : ℕ)
     (can : CanOrder machines c h i request before) (loaded : before.replica.loaded ≡ true) (low : before.replica.position ≤ i)
-    (may : CanRun machines c h.place (with_number i h.holdback) orders before.replica) (here : position ≡ replica.position) (same : orders ≡ held) (keeps : left ≡ orders_from position held) where
+    (may : CanRun machines c h.place (with_number i h.holdback) orders before.replica) (here : position ≡ replica.position) (keeps : left ≡ orders_from position orders) where
   -- the position that what is held reaches
   abbrev end : ℕ
   end = reach (with_number i h.holdback) h.place.position
@@ -61,7 +61,7 @@ module _ (law : HoldbacksAreDropped) (machines : ℕ → Machine) (c : Common) (
   -- what is left is held from there on
   left_held : (n : ℕ) → position ≡ n → HoldStands c.journal c.ran n (from n (with_number i h.holdback)) left
   left_held n is =
-      subst (HoldStands c.journal c.ran n (from n (with_number i h.holdback))) (sym (keeps ∙ ap (orders_from position) (sym same) ∙ ap (λ (k : ℕ). orders_from k orders) is))
+      subst (HoldStands c.journal c.ran n (from n (with_number i h.holdback))) (sym (keeps ∙ ap (λ (k : ℕ). orders_from k orders) is))
       (law c.journal c.ran h.place.position (with_number i h.holdback) orders may.held n)
 
   -- a turn with any answer

@@ -1,5 +1,5 @@
 -- What an order leaves at a host.
-use Rattle.std.specs.Prelude.{◌≡◌, ℕ, ◌+◌, ◌-◌, ◌<◌, ◌≤◌, ◌⊎◌, Bool, true, false, if◌then◌else◌, List, slice_get, Some}
+use Rattle.std.specs.Prelude.{◌≡◌, ℕ, ◌+◌, ◌-◌, ◌<◌, ◌≤◌, ◌⊎◌, Bool, true, false, if◌then◌else◌, nat_lt, List, [], ◌∷◌}
 use Rattle.ft_base.specs.Machine.{Machine}
 use Rattle.ft_base.specs.declared.decisions.Ignored.{Ignored as Cause}
 use Rattle.ft_base.specs.declared.decisions.Ignored.TheVariants as causes
@@ -80,13 +80,14 @@ IsIgnoredWhere past position (Held n) before now = past ≡ false
 IsIgnoredWhere past position (Ignored n) before now = (past ≡ true) × (n ≡ position) × (now ≡ before)
 IsIgnoredWhere past position NoMemory before now = past ≡ false
 
--- ---- the run over what is held
+-- ---- what is held
 
--- the order of an entry stands at this place
-pub record IsHeldAt (orders : List HeldOrder) (index at : ℕ) : Type 0 where
-  pub order : HeldOrder
-  pub there : slice_get orders at ≡ Some order
-  pub same : order.index ≡ index
+-- the first order is of an entry before a position
+abbrev pub begins_below : ℕ → List HeldOrder → Bool
+begins_below position [] = false
+begins_below position (o ∷ orders) = nat_lt o.0 position
+
+-- ---- the run over what is held
 
 -- the orders are those that a host holds, and the replica its own, which is loaded
 pub record CanRun (machines : ℕ → Machine) (c : Common) (place : Place) (holdback : List ℕ) (orders : List HeldOrder) (its_replica : ReplicaPicture) : Type 0 where

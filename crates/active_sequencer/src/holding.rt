@@ -1,32 +1,18 @@
 //! Orders that came before their turn.
-ghost use Rattle.std.specs.Prelude.{◌≡◌, ◌<◌, [], length, nat_eq, OnOk, OnErr, IfSome};
-ghost use Rattle.std.specs.List.{position};
-ghost use Rattle.group_stands.specs.Holding.{HeldOrder, holds, orders_from, with_order};
+ghost use Rattle.std.specs.Prelude.{◌≡◌, [], drop, length, false, Some, None, OnOk, OnErr, MatchOption};
+ghost use Rattle.group_stands.specs.Holding.{orders_from, request_of, with_order};
+ghost use Rattle.active_sequencer.specs.Orders.{begins_below};
 
 use ft_base::{NoMemory, Request};
 use std::alloc::Global;
+use std::collections::BTreeMap;
 use std::marker::Model;
 
-/// The order of an entry: its place in the journal, and its request.
-#[derive(Drop)]
-pub(crate) struct Held {
-    index: u32,
-    request: Request,
-}
-
-impl Model for Held {
-    ghost use Rattle.group_stands.specs.Holding.{HeldOrder};
-
-    ghost Value = { HeldOrder };
-
-    ghost view = { λ h. record { index = h.index; request = h.request } };
-}
-
-/// The orders that a host holds back until the entries before theirs have been run, as they came; at
-/// most one of an entry.
+/// The orders that a host holds back until the entries before theirs have been run: the requests, by their
+/// entries' places in the journal.
 #[derive(Drop)]
 pub struct Holdback {
-    items: Vec<Held>,
+    requests: BTreeMap<u32, Request>,
 }
 
 impl Model for Holdback {
@@ -35,27 +21,7 @@ impl Model for Holdback {
 
     ghost Value = { List HeldOrder };
 
-    ghost view = { λ b. b.items.items };
-}
-
-impl Held {
-    fn new(index: u32, request: Request) -> Held
-        ensures { result ≡ record { index = index; request = request } }
-    {
-        Held { index, request }
-    }
-
-    fn index(&self) -> u32
-        ensures { result ≡ self.now.index }
-    {
-        self.index
-    }
-
-    pub(crate) fn request(&self) -> &Request
-        ensures { result.now ≡ self.now.request }
-    {
-        &self.request
-    }
+    ghost view = { λ b. b.requests.entries };
 }
 
 impl Holdback {
@@ -64,22 +30,22 @@ impl Holdback {
         ensures { result ≡ [] }
     {
         Holdback {
-            items: Vec::new(alloc),
+            requests: BTreeMap::new(alloc),
         }
     }
 
-    /// The orders, as they came.
-    pub(crate) fn as_slice(&self) -> &[Held]
-        ensures { result.now ≡ self.now }
+    /// How many orders are held.
+    pub(crate) fn len(&self) -> usize
+        ensures { result ≡ length self.now }
     {
-        self.items.as_slice()
+        self.requests.len()
     }
 
-    /// Whether an order of the entry at this place is held.
-    fn has(&self, index: u32) -> bool
-        ensures { result ≡ holds index self.now }
+    /// The request of the order of an entry, where one is held.
+    pub(crate) fn request(&self, index: u32) -> Option<&Request>
+        ensures { MatchOption result (request_of index self.now ≡ None) (λ request. request_of index self.now ≡ Some request.now) }
     {
-        self.items.iter().any(|held| held.index() == index)
+        self.requests.get(&index)
     }
 
     /// Holds an order, unless one of its entry is held.
@@ -87,39 +53,44 @@ impl Holdback {
         ensures held { OnOk result (self.new ≡ with_order index request self.old) }
         ensures left { OnErr result (self.new ≡ self.old) }
     {
-        if self.has(index) {
+        if self.requests.contains_key(&index) {
             return Ok(());
         }
-        self.items.push(Held::new(index, request))?;
+        self.requests.insert(index, request)?;
         Ok(())
+    }
+
+    /// Whether the first order is of an entry before a position.
+    fn begins_below(&self, position: u32) -> bool
+        ensures below { result ≡ begins_below position self.now }
+        ensures sorted { result ≡ false → orders_from position self.now ≡ self.now }
+    {
+        match self.requests.first_key_value() {
+            Some((first, _)) => *first < position,
+            None => false,
+        }
+    }
+
+    /// Lets go of the first order.
+    fn drop_first(&mut self)
+        ensures { self.new ≡ drop 1 self.old }
+    {
+        let _first = self.requests.pop_first();
     }
 
     /// Lets go of the orders of entries before a position. It takes no memory.
     pub fn drop_below(&mut self, position: u32)
         ensures { self.new ≡ orders_from position self.old }
     {
-        keep_from(&mut self.items, position);
+        while self.begins_below(position) {
+            self.drop_first();
+        }
     }
 
     /// Lets go of all orders.
     pub fn clear(&mut self)
         ensures { self.new ≡ [] }
     {
-        self.items.clear();
+        self.requests.clear();
     }
-}
-
-/// Keeps the orders of the entries from a position on.
-fn keep_from(items: &mut Vec<Held>, position: u32)
-    ensures { items.new.items ≡ orders_from position items.old.items }
-{
-    items.retain(|held| position <= held.index());
-}
-
-/// The place of the first order of an entry.
-pub(crate) fn place_of(orders: &[Held], index: u32) -> Option<usize>
-    ensures place { result ≡ position (λ (o : HeldOrder). nat_eq o.index index) orders.now }
-    ensures within { IfSome result (λ at. at < length orders.now) }
-{
-    orders.iter().position(|held| held.index() == index)
 }

@@ -1,10 +1,9 @@
 //! An order comes to a host.
-ghost use Rattle.std.specs.Prelude.{◌≡◌, ◌+◌, ◌<◌, ◌≤◌, ◌||◌, ℕ, List, drop, length, false, not, nat_lt, OnOk, OnErr, IfSome, MatchOption};
+ghost use Rattle.std.specs.Prelude.{◌||◌, ℕ, List, not, nat_lt, OnOk, OnErr};
 ghost use Rattle.group_model.specs.Plain.{Common, Host, Place};
-ghost use Rattle.group_stands.specs.Holding.{holds};
-ghost use Rattle.active_sequencer.specs.Orders.{seen, CanOrder, CanRun, IsHeldAt, HasRun, HasStopped, IsOrdered, IsIgnoredWhere};
+ghost use Rattle.active_sequencer.specs.Orders.{seen, CanOrder, CanRun, HasRun, HasStopped, IsOrdered, IsIgnoredWhere};
 
-use crate::holding::{Held, Holdback, place_of};
+use crate::holding::Holdback;
 use ft_base::{NoMemory, Request, Servant, Steps};
 use ft_replica::Replica;
 use group_stands::{holdbacks_go_on, orders_run};
@@ -25,31 +24,10 @@ pub enum Ordered {
     NoMemory,
 }
 
-/// The orders from a place on.
-fn behind(orders: &[Held], start: usize) -> &[Held]
-    requires { start ≤ length orders.now }
-    ensures { result.now ≡ drop start orders.now }
-{
-    &orders[start..]
-}
-
-/// The place of an order of an entry, which is looked for from a place on, and only then before it.
-fn place_near(orders: &[Held], start: usize, index: u32) -> Option<usize>
-    requires { start ≤ length orders.now }
-    ensures found { MatchOption result (holds index orders.now ≡ false) (λ at. IsHeldAt orders.now index at) }
-    ensures within { IfSome result (λ at. at < length orders.now) }
-{
-    if let Some(at) = place_of(behind(orders, start), index) {
-        return Some(start + at);
-    }
-    place_of(orders, index)
-}
-
-/// Runs the orders that follow one another from the replica's position on. Orders that came in turn are
-/// found without a search.
+/// Runs the orders that follow one another from the replica's position on.
 fn run_held<S: Servant + Drop, L: Ledger>(
     alloc: Global,
-    orders: &[Held],
+    orders: &Holdback,
     replica: &mut Replica<S>,
     steps: &mut Steps<L>,
 ) -> Result<(), NoMemory>
@@ -61,15 +39,13 @@ fn run_held<S: Servant + Drop, L: Ledger>(
 {
     holdbacks_go_on();
     orders_run();
-    let mut start = 0;
     for _done in 0..orders.len() {
-        let Some(at) = place_near(orders, start, replica.position()) else {
+        let Some(request) = orders.request(replica.position()) else {
             return Ok(());
         };
-        if let Err(NoMemory) = replica.apply(alloc, orders[at].request(), steps) {
+        if let Err(NoMemory) = replica.apply(alloc, request, steps) {
             return Err(NoMemory);
         }
-        start = at + 1;
     }
     Ok(())
 }
@@ -100,7 +76,7 @@ pub fn order<S: Servant + Drop, L: Ledger>(
     if let Err(NoMemory) = holdback.hold(index, request) {
         return Ordered::NoMemory;
     }
-    let ran = run_held(alloc, holdback.as_slice(), replica, steps);
+    let ran = run_held(alloc, holdback, replica, steps);
     let position = replica.position();
     holdback.drop_below(position);
     if let Err(NoMemory) = ran {

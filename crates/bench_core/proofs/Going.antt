@@ -14,7 +14,7 @@ use Rattle.group_model.specs.declared.events.Event.TheVariants as events
 use Rattle.group_model.specs.declared.events.GroupAnswer.{GroupAnswer}
 use Rattle.group_model.specs.declared.events.GroupAnswer.TheVariants.{NoMemory}
 use Rattle.group_model.specs.Agreeing.{IsShortAsked}
-use Rattle.group_model.specs.Changes.{host_of_change}
+use Rattle.group_model.specs.Changes.{NamesHosts}
 use Rattle.group_model.specs.Events.{after_event, shows_fault}
 use Rattle.group_model.specs.Plain.{Group}
 use Rattle.group_core.specs.Acting.{IsActed}
@@ -30,8 +30,8 @@ module _ (machines : ℕ → Machine) where
     pub may_ask : (host : HostNo) (clock : Tick) (asked : Asked) (stop : Stop) → host.0 < HOST_LIMIT → IsShortAsked asked → MayCome machines core (events.Request host clock asked stop)
     may_ask host clock asked stop there short g stands = record { host = there; brought = short }
 
-    pub may_manage : (change : Change) → (host_of_change change).0 < HOST_LIMIT → MayCome machines core (events.Manage change)
-    may_manage change there g stands = record { host = there; brought = tt }
+    pub may_manage : (change : Change) → NamesHosts change → MayCome machines core (events.Manage change)
+    may_manage change names g stands = record { host = names.0; brought = names.1 }
 
 pub four_there : (members : List ℕ) → members ≡ 0 ∷ 1 ∷ 2 ∷ 3 ∷ [] → AllByRecursion (λ host. host < HOST_LIMIT) members × AreDifferent members
 four_there members is = rw is ((omega arith, (omega arith, (omega arith, (omega arith, tt)))), (refl, (refl, (refl, (refl, tt)))))

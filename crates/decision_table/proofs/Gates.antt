@@ -58,7 +58,7 @@ all_of m c known (Err why) newest fits short = tt
 module _ (shown : LogsShowViews) (tell : LogsTell) (machines : ℕ → Machine) (c : Common) (log : LogPicture) (style : Style) (kind known host : ℕ)
     (is : IsAsked machines c log style kind known) (view : View) (there : pictures.view_at log known ≡ Some view) (asked : Asked) where
   view_is : view ≡ view_at c.views known
-  view_is = let told = shown machines c log is.log known is.some is.few in cc
+  view_is = let told = shown machines c log is.log known is.has in cc
 
   rows_are : first_row (view_rows style host (asked_version known asked.version) known view log.newest.version.0 log.newest)
       ≡ refused_by_view c host (asked_version known asked.version) known
@@ -76,7 +76,7 @@ module _ (shown : LogsShowViews) (tell : LogsTell) (machines : ℕ → Machine) 
         let none_of = none_stands (view_rows c.style host (asked_version known asked.version) known (view_at c.views known) (newest c) (newest_view c))
         (sym rows_are ∙ sym rows ∙ none) in
         let last = ltb-false known (newest c) none_of.1.1.1.1.1.1.0 in
-        omega (arith, last, is.few)
+        omega (arith, last, is.has.1)
 
     pub may_be_served : (r : Result Request Unpassed) → o ≡ None → IfOk r (Fits (machines kind)) → IfOk r (λ request. length request.args ≤ ARGUMENTS_LIMIT) →
         IfRequest (told_of r) (MayBeServed (machines c.kind) c known)

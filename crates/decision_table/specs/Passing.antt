@@ -1,5 +1,5 @@
 -- What came of what was asked, against the plain group's decision table.
-use Rattle.std.specs.Prelude.{◌≡◌, ℕ, ◌<◌, ◌≤◌, length, None, IsSome, Result, Ok, Err}
+use Rattle.std.specs.Prelude.{◌≡◌, ℕ, ◌≤◌, length, None, IsSome, Result, Ok, Err}
 use Rattle.ft_base.specs.Machine.{Machine, Fits}
 use Rattle.ft_base.specs.declared.limits.TheConstants.{ARGUMENTS_LIMIT}
 use Rattle.ft_base.specs.declared.requests.Request.{Request}
@@ -8,7 +8,7 @@ use Rattle.message_log.specs.Picture.{Picture as LogPicture}
 use Rattle.group_model.specs.Asking.{asked_version, signature_asked}
 use Rattle.group_model.specs.Decisions.{refused_by_view}
 use Rattle.group_model.specs.Plain.{Common}
-use Rattle.group_model.specs.Views.{newest}
+use Rattle.group_model.specs.Views.{StillHas, newest}
 use Rattle.group_model.specs.declared.asking.Asked.{Asked}
 use Rattle.group_model.specs.declared.refusals.Refusal.{Refusal}
 use Rattle.group_stands.specs.Stands.{LogStands}
@@ -17,13 +17,12 @@ use Rattle.decision_table.specs.declared.arguments.Unpassed.TheVariants as unpas
 use Rattle.decision_table.specs.declared.passing.Passed.{Passed}
 use Rattle.decision_table.specs.declared.passing.Passed.TheVariants as passed
 
--- A log, a style and a kind of servant are a group's, and its host knows a version that the group has.
+-- A log, a style and a kind of servant are a group's, and its host knows the version of a view that the group still has.
 pub record IsAsked (machines : ℕ → Machine) (c : Common) (its_log : LogPicture) (its_style : Style) (its_kind known : ℕ) : Type 0 where
   pub log : LogStands machines c its_log
   pub style : its_style ≡ c.style
   pub kind : its_kind ≡ c.kind
-  pub some : 0 < known
-  pub few : known ≤ newest c
+  pub has : StillHas c known
 
 -- it is the request that no row refuses, or the first row's refusal; or memory was wanted
 abbrev pub Passes : Result Request Refusal → Passed → Type 0

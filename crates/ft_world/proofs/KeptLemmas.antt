@@ -404,6 +404,7 @@ module _ (T : Type 0) where
   reported_keeps w kind group (changes.Add host) = same w
   reported_keeps w kind group (changes.Create host listed made) = same w
   reported_keeps w kind group (changes.Primary host) = same w
+  reported_keeps w kind group (changes.Replace host spares) = fault_keeps w (fault_of kind group host)
 
   changed_keeps : (w : World) (host : HostNo) (g : ScriptGroup) (change : Change) (answer : GroupAnswer) → Makes w (changed w host g change answer)
   changed_keeps w host g change (answers.Changed view out) =

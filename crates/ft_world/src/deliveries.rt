@@ -28,6 +28,7 @@ use client_retry::Heard;
 use fault_script::LineFault;
 use ft_base::{Decision, GroupId, HostNo, Name, NoMemory, Par, Request, Steps, Stop, Version};
 use ft_report::{ReportLine, ReportLines, ReportOutcome};
+use group_core::event_of;
 use group_model::{Asked, Event, GroupAnswer, Inner, Out, OutList};
 use host_server::no_group;
 use link_session::view_references_can_be_sent;
@@ -137,32 +138,6 @@ fn index_of(carried: &Inner) -> Option<u32>
         Inner::State { .. } => None,
         Inner::Update { .. } => None,
         Inner::Order { index, .. } => Some(*index),
-    }
-}
-
-// What one host sent to another, as it comes.
-fn brought(out: Out) -> Event
-    ensures { result ≡ brought out }
-{
-    let host = out.to;
-    match out.carried {
-        Inner::View { version } => Event::View { host, version },
-        Inner::State { position, state } => Event::State {
-            host,
-            position,
-            state,
-        },
-        Inner::Update { from, to, update } => Event::Update {
-            host,
-            from,
-            to,
-            update,
-        },
-        Inner::Order { index, request } => Event::Order {
-            host,
-            index,
-            request,
-        },
     }
 }
 
@@ -523,7 +498,7 @@ fn bring_at<L: Ledger>(
     let name = world.group(place).name().copy(alloc)?;
     let host = out.to;
     let index = index_of(&out.carried);
-    match world.event_at(place, brought(out), steps) {
+    match world.event_at(place, event_of(out), steps) {
         GroupAnswer::NoMemory => Err(NoMemory),
         answer => came(alloc, number, name, host, index, answer),
     }

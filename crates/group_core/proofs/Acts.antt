@@ -15,6 +15,7 @@ use Rattle.group_model.specs.Laws.{Grows, GroupsGrow, GroupsStaySound}
 use Rattle.group_model.specs.Lean.{IsLean, nothing, partly, unrun}
 use Rattle.group_model.specs.Plain.{Host, Group, blank, put}
 use Rattle.group_model.specs.Runs.{Step}
+use Rattle.group_model.specs.Steps.{LeanGrows}
 use Rattle.group_stands.specs.Going.{ReplicasGoOn}
 use Rattle.group_stands.specs.Holding.{HoldbacksGoOn}
 use Rattle.group_stands.specs.Stands.{LogStands}
@@ -23,7 +24,7 @@ use Rattle.group_hosts.specs.Turning.{seen}
 use Rattle.group_hosts.specs.Turning as turns
 use Rattle.group_core.specs.Acting.{IsActed}
 use Rattle.group_core.specs.Cores.{CorePicture, Stands}
-use Rattle.group_core.proofs.Growing.{event_sound, event_grows, lean_grows, sound_stays, host_stays}
+use Rattle.group_core.proofs.Growing.{event_sound, event_grows, sound_stays, host_stays}
 
 -- ---- places of a list
 
@@ -72,8 +73,10 @@ module _ (replicas : ReplicasGoOn) (holdbacks : HoldbacksGoOn) (machines : ℕ �
   stands_after : (at : ℕ) (left : Group) (log : LogPicture) (host : HostPicture) → IsBeside g at left → Grows g.common left.common → LogStands machines left.common log →
       HostStands machines left.common host (left.hosts at) → IsSound (machines left.common.kind) left → Stands machines (moved_core at log host) left
   stands_after at left log host beside grows log_stands host_stands sound = record {
+    id = stands.id ∙ sym grows.id;
     style = stands.style ∙ sym grows.style;
     opening = record { kind = stands.opening.kind ∙ sym grows.kind; state = stands.opening.state ∙ sym grows.opening };
+    first_kept = stands.first_kept ∙ sym grows.first_kept;
     log = log_stands;
     count = length-set core.hosts at host ∙ stands.count;
     hosts = λ i other there. elim (cases_eq i at) [
@@ -100,7 +103,7 @@ module _ (replicas : ReplicasGoOn) (holdbacks : HoldbacksGoOn) (machines : ℕ �
     ];
   }
 
-  module _ (sounds : GroupsStaySound) (all_grow : GroupsGrow) (stays : (k : ℕ) → Stays (machines k)) (e : Event) (agrees : Agrees (machines g.common.kind) e g) where
+  module _ (sounds : GroupsStaySound) (all_grow : GroupsGrow) (lean_grows : LeanGrows) (stays : (k : ℕ) → Stays (machines k)) (e : Event) (agrees : Agrees (machines g.common.kind) e g) where
     pub acted : (answer : GroupAnswer) (log : LogPicture) (host : HostPicture) (before now : ℕ) → turns.IsTurn machines g e answer before (seen log host now) →
         IsActed machines g e answer (moved_core (host_of e) log host) before now
     acted NoMemory log host before now short =

@@ -1,5 +1,5 @@
 -- Hosts that take no part in an event go on standing.
-use Rattle.std.proofs.Common.{◌≡◌, ℕ, ◌<◌, ◌≤◌, max, List, [], ◌∷◌, append-nil, length, length-append, refl, sym, subst, ap, ◌∙◌, arith}
+use Rattle.std.proofs.Common.{◌≡◌, ℕ, ◌<◌, ◌≤◌, ◌⊎◌, List, [], ◌∷◌, length, length-append, refl, sym, subst, ap, ◌∙◌, arith}
 use Rattle.std.specs.List.{AllByRecursion}
 use Rattle.ft_base.specs.Machine.{Machine}
 use Rattle.ft_base.specs.Laws.{Stays}
@@ -7,8 +7,7 @@ use Rattle.group_model.specs.declared.events.Event.{Event}
 use Rattle.group_model.specs.Agreeing.{IsSoundHost, IsSound, Agrees}
 use Rattle.group_model.specs.Events.{after_event}
 use Rattle.group_model.specs.Laws.{Grows, GroupsGrow, GroupsStaySound}
-use Rattle.group_model.specs.Lean.{IsLean, nothing, partly, unrun}
-use Rattle.group_model.specs.Plain.{Common, Host, Group, with_ran}
+use Rattle.group_model.specs.Plain.{Common, Host, Group}
 use Rattle.group_model.specs.Runs.{Step, after_steps, AllAgree}
 use Rattle.group_model.specs.Views.{newest}
 use Rattle.group_stands.specs.Going.{ReplicasGoOn}
@@ -31,50 +30,6 @@ event_sound law m stays g step sound agrees = subst (IsSound m) (one_step m g st
 pub event_grows : GroupsGrow → (m : Machine) (g : Group) (step : Step) → Grows g.common (after_event m g step.event step.fails).common
 event_grows law m g step = subst (λ (x : Group). Grows g.common x.common) (one_step m g step) (law m g (step ∷ []))
 
--- ---- what want of memory leaves
-
-grows_itself : (c : Common) → Grows c c
-grows_itself c = record {
-  style = refl;
-  kind = refl;
-  opening = refl;
-  more = [];
-  journal = sym (append-nil c.journal);
-  newer = [];
-  views = sym (append-nil c.views);
-  time = omega arith;
-  ran = omega arith;
-}
-
-with_ran_grows : (c : Common) (n : ℕ) → Grows c (with_ran n c)
-with_ran_grows c n = record {
-  style = refl;
-  kind = refl;
-  opening = refl;
-  more = [];
-  journal = sym (append-nil c.journal);
-  newer = [];
-  views = sym (append-nil c.views);
-  time = omega arith;
-  ran = omega arith;
-}
-
-pub lean_grows : (m : Machine) (g : Group) (e : Event) (left : Group) → g.common.ran ≤ length g.common.journal → IsLean m g e left → Grows g.common left.common
-lean_grows m g e left ran (nothing same) = subst (λ (x : Group). Grows g.common x.common) (sym same) (grows_itself g.common)
-lean_grows m g e left ran (partly is) = subst (λ (x : Group). Grows g.common x.common) (sym is.is) (with_ran_grows g.common is.host.place.position)
-lean_grows m g e left ran (unrun is) =
-    subst (λ (x : Group). Grows g.common x.common) (sym is.is) (record {
-      style = refl;
-      kind = refl;
-      opening = refl;
-      more = record { at = max is.clock g.common.time; request = is.request } ∷ [];
-      journal = refl;
-      newer = [];
-      views = sym (append-nil g.common.views);
-      time = omega arith;
-      ran = ran;
-    })
-
 -- ---- the others
 
 views_grow : (c later : Common) → Grows c later → newest c ≤ newest later
@@ -82,12 +37,13 @@ views_grow c later grows = let e = ap length grows.views ∙ length-append c.vie
 
 pub sound_stays : (c later : Common) (h : Host) → Grows c later → IsSoundHost c h → IsSoundHost later h
 sound_stays c later h grows sound = record {
-  known = omega (arith, sound.known, views_grow c later grows);
+  known = (omega (arith, sound.known.0, views_grow c later grows), subst (λ (n : ℕ). (h.known ≡ 0) ⊎ (n ≤ h.known)) (sym grows.first_kept) sound.known.1);
   base = sound.base;
   position = omega (arith, sound.position, grows.ran);
   unloaded = sound.unloaded;
   held = numbers_stay h.place.position c.ran later.ran h.holdback grows.ran sound.held;
   passive = rw grows.style sound.passive;
+  down = sound.down;
 } where
   numbers_stay : (position ran more : ℕ) (xs : List ℕ) → ran ≤ more → AllByRecursion (λ i. (position ≤ i) × (i < ran)) xs → AllByRecursion (λ i. (position ≤ i) × (i < more)) xs
   numbers_stay position ran more [] le all = tt

@@ -1,6 +1,9 @@
 pub mod Growing
 pub mod Acts
+pub mod Stepping
 pub mod Opens
 pub mod Runs
 pub mod Tells
+pub mod WhoTakes
 pub mod Trying
+pub mod Resumes

@@ -48,7 +48,7 @@ is_logged Active members hosts = record { hosts = hosts; primary = tt }
 
 -- ---- the hosts, one by one
 
-slice_get-push : {X : Type 0} (xs : List X) (x y : X) (i : ℕ) → slice_get (xs ++ x ∷ []) i ≡ Some y → (slice_get xs i ≡ Some y) ⊎ ((i ≡ length xs) × (x ≡ y))
+pub slice_get-push : {X : Type 0} (xs : List X) (x y : X) (i : ℕ) → slice_get (xs ++ x ∷ []) i ≡ Some y → (slice_get xs i ≡ Some y) ⊎ ((i ≡ length xs) × (x ≡ y))
 slice_get-push [] x y zero h = inr (refl, cc)
 slice_get-push [] x y (suc i) h = cc
 slice_get-push (z ∷ xs) x y zero h = inl h
@@ -107,20 +107,22 @@ module _ (opened : OpenedReplicasStand) (blanks : BlanksStand) (nothing_held : N
   there_stands false loaded = blank_stands 0
 
   there_sound : (is_one loaded : Bool) → IsSoundHost opens (host_there is_one loaded)
-  there_sound true true = record { known = omega arith; base = omega arith; position = omega arith; unloaded = λ e. cc; held = tt; passive = λ e. refl }
-  there_sound true false = record { known = omega arith; base = omega arith; position = omega arith; unloaded = λ e. (refl, refl); held = tt; passive = λ e. refl }
-  there_sound false loaded = record { known = omega arith; base = omega arith; position = omega arith; unloaded = λ e. (refl, refl); held = tt; passive = λ e. refl }
+  there_sound true true = record { known = (omega arith, inr (omega arith)); base = omega arith; position = omega arith; unloaded = λ e. cc; held = tt; passive = λ e. refl; down = λ e. absurd cc }
+  there_sound true false = record { known = (omega arith, inr (omega arith)); base = omega arith; position = omega arith; unloaded = λ e. (refl, refl); held = tt; passive = λ e. refl; down = λ e. absurd cc }
+  there_sound false loaded = record { known = (omega arith, inl refl); base = omega arith; position = omega arith; unloaded = λ e. (refl, refl); held = tt; passive = λ e. refl; down = λ e. absurd cc }
 
   module _ (fresh_logs : FreshLogsStand) (is_state : (machines kind).is_state state ≡ true) (few : length members ≤ MEMBER_LIMIT) (different : AreDifferent members)
       (hosts_there : AllByRecursion (λ host. host < HOST_LIMIT) members) where
     pub opening_stands : (hosts : List HostPicture) (log : LogPicture) (plan : Option (List Bool)) (faults : ℕ) →
         AreOpening kind state style (first_view style members) hosts HOST_LIMIT → log ≡ fresh (first_view style members) plan faults →
-        Stands machines (record { style = style; kind = kind; opening = state; log = log; hosts = hosts }) (opening_group id style kind state members)
+        Stands machines (record { id = id; style = style; kind = kind; opening = state; first_kept = 1; log = log; hosts = hosts }) (opening_group id style kind state members)
     opening_stands hosts log plan faults so is =
         let log_stands : LogStands machines opens log = rw is (fresh_logs machines id style kind state members plan faults is_state (is_view style members few different) hosts_there) in
         record {
+          id = refl;
           style = refl;
           opening = record { kind = refl; state = refl };
+          first_kept = refl;
           log = log_stands;
           count = so.count;
           hosts = λ i host there.

@@ -10,19 +10,24 @@ use Rattle.ft_base.specs.declared.numbers.HostNo.{HostNo}
 use Rattle.ft_base.specs.declared.numbers.Tick.{Tick}
 use Rattle.ft_base.specs.declared.views.Style.{Style}
 use Rattle.ft_base.specs.declared.views.Style.TheVariants.{Cold, Warm, Active}
+use Rattle.message_log.specs.Opening.{IsReopened}
+use Rattle.message_log.specs.Picture.{Picture as LogPicture}
+use Rattle.message_log.specs.Written.{IsWrittenDown}
 use Rattle.group_model.specs.declared.asking.Asked.{Asked}
 use Rattle.group_model.specs.declared.events.Event.{Event}
 use Rattle.group_model.specs.declared.events.Event.TheVariants as events
 use Rattle.group_model.specs.declared.events.GroupAnswer.{GroupAnswer}
 use Rattle.group_model.specs.declared.events.GroupAnswer.TheVariants as answers
-use Rattle.group_model.specs.Agreeing.{IsShortAsked, taker}
+use Rattle.group_model.specs.Agreeing.{IsShortAsked, taking_host}
 use Rattle.group_model.specs.Plain.{Group}
+use Rattle.group_model.specs.Reopening.{reopened}
 use Rattle.ft_base.specs.Views.{is_passive}
 use Rattle.group_model.specs.Views.{is_warm}
 use Rattle.group_stands.specs.Going.{LogsGoOnBeside}
 use Rattle.group_stands.specs.Telling.{LogsTell}
 use Rattle.group_core.specs.Acting.{IsActed, IsTaken}
 use Rattle.group_core.specs.Cores.{CorePicture, Stands}
+use Rattle.group_core.specs.Resuming.{CoresMayGoOn, MayResume}
 use Rattle.group_core.specs.Running.{is_short}
 use Rattle.group_core.specs.Trying.{IsSome, MayCome}
 
@@ -51,7 +56,7 @@ module _ (machines : ℕ → Machine) where
     pub may_ask : (host : HostNo) (clock : Tick) (asked : Asked) (stop : Stop) → host.0 < HOST_LIMIT → IsShortAsked asked → MayCome machines core (events.Request host clock asked stop)
     may_ask host clock asked stop there short g stands = record { host = there; brought = short }
 
-    takes : LogsTell → (host : HostNo) → is_passive core.style ≡ true → core.log.newest.primary ≡ Some host → (g : Group) → Stands machines core g → taker g ≡ Some host
+    takes : LogsTell → (host : HostNo) → is_passive core.style ≡ true → core.log.newest.primary ≡ Some host → (g : Group) → Stands machines core g → taking_host g ≡ Some host
     takes tell host passive leads g stands =
         let so : is_passive g.common.style ≡ true = ap is_passive (sym stands.style) ∙ passive in
         let view = (tell machines g.common core.log stands.log).view in
@@ -75,14 +80,30 @@ goes_on_planned beside machines core later plan some is =
     subst (λ (p : CorePicture). IsSome machines p) (sym is) (record {
       group = some.group;
       stands = record {
+        id = some.stands.id;
         style = some.stands.style;
         opening = some.stands.opening;
+        first_kept = some.stands.first_kept;
         log = beside machines c log some.stands.log log.reserved log.records plan log.faults;
         count = some.stands.count;
         hosts = some.stands.hosts;
         sound = some.stands.sound;
       };
     })
+
+-- ---- a log that is opened again
+
+pub goes_on_again : CoresMayGoOn → (machines : ℕ → Machine) (core now : CorePicture) (again : LogPicture) (kind : ℕ) (state : List ℕ) (pieces : List (List ℕ)) (plan : Option (List Bool)) (faults : ℕ) →
+    IsSome machines core → IsWrittenDown core.log → pieces ≡ core.log.records → IsReopened pieces plan faults again → kind ≡ core.kind → state ≡ core.opening →
+    ((g : Group) → MayResume machines core.id core.style kind state again g → Stands machines now g) → IsSome machines now
+goes_on_again law machines core now again kind state pieces plan faults some written same opened is_kind is_state stands =
+    let may = (law machines core some.group some.stands written).resumes again plan faults (subst (λ (ps : List (List ℕ)). IsReopened ps plan faults again) same opened) in
+    record {
+      group = reopened some.group;
+      stands = stands (reopened some.group)
+          (subst (λ (k : ℕ). MayResume machines core.id core.style k state again (reopened some.group)) (sym is_kind)
+          (subst (λ (s : List ℕ). MayResume machines core.id core.style core.kind s again (reopened some.group)) (sym is_state) may));
+    }
 
 -- ---- four members
 

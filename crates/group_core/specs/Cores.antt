@@ -10,10 +10,14 @@ use Rattle.group_stands.specs.Stands.{LogStands, OpeningStands}
 use Rattle.group_hosts.specs.Hosts.{HostPicture, HostStands}
 
 pub record CorePicture : Type 0 where
+  -- the group's number
+  pub id : ℕ
   pub style : Style
   -- the kind and the state of the servant with which the group was made
   pub kind : ℕ
   pub opening : List ℕ
+  -- the version of the first view that it still has
+  pub first_kept : ℕ
   pub log : LogPicture
   -- by number
   pub hosts : List HostPicture
@@ -21,8 +25,10 @@ pub record CorePicture : Type 0 where
 -- It stands for a sound group: its log for what the hosts share, and each of its hosts for the group's host of
 -- that number.
 pub record Stands (machines : ℕ → Machine) (core : CorePicture) (g : Group) : Type 0 where
+  pub id : core.id ≡ g.common.id
   pub style : core.style ≡ g.common.style
   pub opening : OpeningStands g.common core.kind core.opening
+  pub first_kept : core.first_kept ≡ g.common.first_kept
   pub log : LogStands machines g.common core.log
   pub count : length core.hosts ≡ HOST_LIMIT
   pub hosts : (i : ℕ) (host : HostPicture) → slice_get core.hosts i ≡ Some host → HostStands machines g.common host (g.hosts i)

@@ -15,12 +15,19 @@
 
 mod cores;
 mod laws;
+mod reopens;
 mod running;
+mod takers;
 #[cfg(test)]
 mod tests;
 #[cfg(test)]
 mod trials;
 
 pub use cores::GroupCore;
-pub use laws::{cores_tell, unfailing_logs_show_no_fault};
+pub use laws::{
+    acts_are_steps, cores_tell, log_faults_are_counted, unfailing_logs_show_no_fault,
+    want_of_memory_is_told,
+};
+pub use reopens::cores_may_go_on;
 pub use running::{is_short, run};
+pub use takers::event_of;

@@ -3,7 +3,7 @@
 ghost use Rattle.std.specs.Prelude.{◌≡◌, ◌<◌, OnOk};
 ghost use Rattle.group_core.specs.Trying.{IsSome};
 
-use crate::trials::{Step, Told, Trial, ask, open, take};
+use crate::trials::{Step, Told, Trial, ask, open, reopen, take};
 use ft_base::{NoMemory, Servant, Steps, Style};
 use shipped_servants::{Kind, Shipped};
 use std::alloc::Global;
@@ -86,6 +86,35 @@ const CHECKPOINT: [(Step, Told); 5] = [
     (Step::SendUpdate, ("taken", 1, 1)),
 ];
 
+// All hosts stop, and the group goes on over its log, of which the checkpoint cut the first entry.
+const BEFORE_THE_STOP: [(Step, Told); 3] = [
+    (Step::Ask(0, 1, 5), ("append", 0, 5)),
+    (Step::Checkpoint, ("taken", 0, 1)),
+    (Step::Ask(0, 2, 2), ("append", 1, 7)),
+];
+
+const BEHIND_THE_STOP: [(Step, Told); 6] = [
+    (Step::Look(0), ("blank", 0, 0)),
+    (Step::Mark, ("mark", 1, 0)),
+    (Step::Ask(0, 1, 5), ("repeat", 0, 5)),
+    (Step::Ask(0, 2, 2), ("repeat", 1, 7)),
+    (Step::Ask(0, 3, 1), ("append", 2, 8)),
+    (Step::Look(0), ("at", 3, 8)),
+];
+
+fn run_reopened<L: Ledger>(
+    rt: &impl Abort,
+    alloc: Global,
+    style: Style,
+    steps: &mut Steps<L>,
+) -> Result<(), NoMemory> {
+    let account = Shipped::open(alloc, Kind::Account)?;
+    let mut trial = open(alloc, account, style, &[])?;
+    run_rows(rt, alloc, &mut trial, &BEFORE_THE_STOP, steps)?;
+    let mut trial = reopen(alloc, trial)?;
+    run_rows(rt, alloc, &mut trial, &BEHIND_THE_STOP, steps)
+}
+
 fn each_row<L: Ledger>(rt: &impl Abort, alloc: Global, blank: Blank) -> Result<(), NoMemory>
     requires name { blank.name ≡ L.name }
     requires parts { blank.parts ≡ L.parts }
@@ -96,7 +125,9 @@ fn each_row<L: Ledger>(rt: &impl Abort, alloc: Global, blank: Blank) -> Result<(
     run_group(rt, alloc, Style::Active, &[], &ORDERED_LATE, &mut steps)?;
     run_group(rt, alloc, Style::Warm, &[3], &NO_CHECKPOINT, &mut steps)?;
     run_group(rt, alloc, Style::Warm, &[4], &CHECKPOINT, &mut steps)?;
-    run_group(rt, alloc, Style::Warm, &[5], &CHECKPOINT, &mut steps)
+    run_group(rt, alloc, Style::Warm, &[5], &CHECKPOINT, &mut steps)?;
+    run_reopened(rt, alloc, Style::Cold, &mut steps)?;
+    run_reopened(rt, alloc, Style::Warm, &mut steps)
 }
 
 #[test]

@@ -6,7 +6,7 @@ ghost use Rattle.ft_base.specs.declared.limits.TheConstants.{HOST_LIMIT};
 ghost use Rattle.group_core.specs.Running.{is_short};
 ghost use Rattle.group_core.specs.Trying.{IsSome, MayCome};
 
-use crate::GroupCore;
+use crate::{GroupCore, cores_may_go_on};
 use cdr_codec::{Order, Raw};
 use ft_base::{
     Bytes, Decision, GroupId, HostNo, Key, Members, Name, NoMemory, Outcome, Retention, Servant,
@@ -16,6 +16,7 @@ use ft_outside::MemKeeper;
 use group_hosts::is_warm;
 use group_model::{Asked, Event, GroupAnswer, Inner, Out, OutList};
 use group_stands::{logs_go_on, logs_tell};
+use message_log::Log;
 use std::alloc::Global;
 use std::sync::ledger::Ledger;
 use sys_faults::{Answer, Completed, SysKind};
@@ -350,6 +351,30 @@ fn fail<S: Servant + Drop>(trial: &mut Trial<S>) -> Result<Told, NoMemory>
     logs_go_on();
     trial.core.fail_next()?;
     Ok(("fail", 0, 0))
+}
+
+/// All hosts stop, and the group goes on over its log, which is opened again.
+pub fn reopen<S: Servant + Drop>(alloc: Global, trial: Trial<S>) -> Result<Trial<S>, NoMemory>
+    requires { IsSome S.machine trial.core }
+    ensures { IfOk result (λ again. IsSome S.machine again.core) }
+{
+    cores_may_go_on();
+    let Trial { core, sent: _sent } = trial;
+    let group = core.group();
+    let style = core.style();
+    let (opening, log) = core.into_parts();
+    log.is_written_down();
+    let log = match Log::reopen(alloc, log.into_keeper()) {
+        Ok(log) => log,
+        Err(_) => return Err(NoMemory),
+    };
+    match GroupCore::resume(alloc, group, style, opening, log) {
+        Ok(core) => Ok(Trial {
+            core,
+            sent: OutList::new(alloc),
+        }),
+        Err(_) => Err(NoMemory),
+    }
 }
 
 /// Takes a step.

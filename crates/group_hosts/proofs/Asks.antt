@@ -1,10 +1,9 @@
 -- A request at a host.
-use Rattle.std.proofs.Common.{◌≡◌, ℕ, ◌+◌, ◌<◌, ◌≤◌, inl, inr, max, Bool, true, false, List, length, refl, sym, subst, ap, ◌∙◌, arith}
-use Rattle.std.specs.Prelude.{Option, Some, None, Result, Ok}
+use Rattle.std.proofs.Common.{◌≡◌, ℕ, ◌+◌, ◌<◌, ◌≤◌, inl, inr, max, Bool, true, false, List, [], length, refl, sym, subst, ap, ◌∙◌, arith}
+use Rattle.std.specs.Prelude.{Option, Some, None, Result, Ok, Err}
 use Rattle.ft_base.specs.Machine.{Machine}
 use Rattle.ft_base.specs.declared.decisions.Decision.{Decision}
 use Rattle.ft_base.specs.declared.decisions.Stop.{Stop}
-use Rattle.ft_base.specs.declared.decisions.Stop.TheVariants.{Never}
 use Rattle.ft_base.specs.declared.numbers.HostNo.{HostNo}
 use Rattle.ft_base.specs.declared.numbers.Tick.{Tick}
 use Rattle.ft_base.specs.declared.numbers.Version.{Version}
@@ -17,13 +16,13 @@ use Rattle.group_model.specs.declared.events.GroupAnswer.TheVariants as answers
 use Rattle.group_model.specs.declared.events.Out.{Out}
 use Rattle.group_model.specs.declared.refusals.Refusal.{Refusal}
 use Rattle.group_model.specs.Agreeing.{IsSoundHost}
-use Rattle.group_model.specs.Decisions.{known_then, request_in}
+use Rattle.group_model.specs.Decisions.{known_then, looks_up, request_in}
 use Rattle.group_model.specs.Events.{turn_of, is_log_fault}
 use Rattle.group_model.specs.Lean as leans
-use Rattle.group_model.specs.Plain.{Common, Host, Group, blank, from, start_of, caught_up, caught_up_to, put, with_ran}
+use Rattle.group_model.specs.Plain.{Common, Host, Group, blank, from, caught_up, caught_up_to, put, with_ran}
 use Rattle.group_model.specs.Serving.{joined, served, served_or, served_caught_up, unless_bad, asked_at, on_request}
 use Rattle.group_model.specs.Turns.{Turn}
-use Rattle.group_model.specs.Views.{newest}
+use Rattle.group_model.specs.Views.{MayKnow, newest}
 use Rattle.group_stands.specs.Going.{BlanksStand}
 use Rattle.group_stands.specs.Holding.{HeldOrder, NothingIsHeld}
 use Rattle.group_stands.specs.Stands.{LogStands}
@@ -37,8 +36,9 @@ use Rattle.group_hosts.specs.Turning.{seen, IsTaken, IsShort, IsTurn}
 use Rattle.group_hosts.specs.declared.entering.Entered.{Entered}
 use Rattle.group_hosts.specs.declared.entering.Entered.TheVariants.{Done, Short, Unrun}
 use Rattle.group_hosts.proofs.Hears.{put-same, up_is, forgot}
-use Rattle.group_hosts.proofs.Holds.{sound_of, with_ran-same, all_numbers}
-use Rattle.group_hosts.proofs.Shapes.{IsShaped, going, ended, shaped, whole, calls_new}
+use Rattle.group_hosts.proofs.Holds.{sound_of, with_ran-same}
+use Rattle.group_hosts.proofs.Knows.{knows_then, known_has}
+use Rattle.group_hosts.proofs.Shapes.{IsShaped, going, ended, shaped, calls_new}
 
 module _ (machines : ℕ → Machine) (g : Group) (s : Shared) (host : HostNo) (p : HostPicture) (here : IsHere machines g.common (g.hosts host.0) s p)
     (clock : Tick) (asked : Asked) (stop : Stop) (is_up : p.up ≡ true) where
@@ -60,14 +60,18 @@ module _ (machines : ℕ → Machine) (g : Group) (s : Shared) (host : HostNo) (
       let top : newest_version.0 ≡ newest c = ap (λ (v : Version). v.0) newest_is ∙ (tell machines c s.log here.log).version in
       is ∙ ap (λ (n : ℕ). known_then n p.known asked.version) top ∙ ap (λ (k : ℕ). known_then (newest c) k asked.version) here.host.known
 
-  pub is_asked : LogsTell → (newest_version known : Version) → newest_version ≡ s.log.newest.version → (0 < newest_version.0 → 0 < known.0) → (p.known ≤ newest_version.0 → known.0 ≤ newest_version.0) →
+  -- it is a version that the group still has
+  pub may_know : MayKnow c h'.known
+  may_know = knows_then machines c s.log here.log (looks_up h.known asked.version) h.known here.sound.known
+
+  pub is_asked : LogsTell → (newest_version known : Version) → newest_version ≡ s.log.newest.version → known.0 ≡ known_then newest_version.0 p.known asked.version → (0 < newest_version.0 → 0 < known.0) →
       IsAsked machines c s.log s.style s.kind known.0
-  is_asked tell newest_version known newest_is some few =
+  is_asked tell newest_version known newest_is is some =
       let top : newest_version.0 ≡ newest c = ap (λ (v : Version). v.0) newest_is ∙ (tell machines c s.log here.log).version in
       let views = here.log.sound.views.some in
       let top_some : 0 < newest_version.0 = omega (arith, top, views) in
-      let low : p.known ≤ newest_version.0 = omega (arith, top, here.host.known, here.sound.known) in
-      record { log = here.log; style = here.style; kind = here.opening.kind; some = some top_some; few = omega (arith, few low, top) }
+      let may : MayKnow c known.0 = subst (MayKnow c) (sym (knows tell newest_version known newest_is is)) may_know in
+      record { log = here.log; style = here.style; kind = here.opening.kind; has = known_has machines c s.log here.log known.0 (some top_some) may }
 
   -- ---- what is refused before the journal
 
@@ -79,22 +83,45 @@ module _ (machines : ℕ → Machine) (g : Group) (s : Shared) (host : HostNo) (
       ∙ ap (λ (b : Option ℕ). unless_bad b c h (asked_at (machines c.kind) c h' host.0 clock.0 asked x fails)) good
       ∙ ap (served_or (machines c.kind) c h' host.0 clock.0 x fails) is
 
+  pub refused_taken : (refused : Refusal) (steps : ℕ) → asked.bad_context ≡ None → request_in (machines c.kind) c host.0 h'.known asked ≡ Err refused →
+      IsTurn machines g (events.Request host clock asked stop) (answers.Reply refused.decision (Some refused.answer) []) steps (seen s.log (record p { known = refused.known.0 }) steps)
+  refused_taken refused steps good is =
+      let told = answers.Reply refused.decision (Some refused.answer) [] in
+      let now = seen s.log (record p { known = refused.known.0 }) steps in
+      subst (λ (t : Turn). IsTaken machines t told steps now) (sym (good_turn stop (is_log_fault refused.decision) (Err refused) good is)) (record {
+        log = here.log;
+        host = record { up = here.host.up; known = refl; replica = here.host.replica; held = here.host.held };
+        told = refl;
+        calls = omega arith;
+      })
+
   -- ---- what passes
 
   -- the host knows what it has to, and no more than there is
-  pub known_sound : h'.known ≤ newest c → IsSoundHost c h'
-  known_sound few = record { known = few; base = here.sound.base; position = here.sound.position; unloaded = here.sound.unloaded; held = here.sound.held; passive = here.sound.passive }
+  own_up : h.up ≡ true
+  own_up = sym here.host.up ∙ is_up
 
-  pub can_enter : (request : Request) (steps : ℕ) → h'.known ≤ newest c → MayBeServed (machines c.kind) c h'.known request →
+  pub known_sound : IsSoundHost c h'
+  known_sound = record {
+    known = may_know;
+    base = here.sound.base;
+    position = here.sound.position;
+    unloaded = here.sound.unloaded;
+    held = here.sound.held;
+    passive = here.sound.passive;
+    down = λ no. let both : true ≡ false = sym own_up ∙ no in absurd cc;
+  }
+
+  pub can_enter : (request : Request) (steps : ℕ) → MayBeServed (machines c.kind) c h'.known request →
       CanEnter machines c h' s.style s.kind s.opening request (parts s.log p.replica p.held steps)
-  can_enter request steps few may = record {
+  can_enter request steps may = record {
     style = here.style;
-    catch_up = record { stand = record { log = here.log; replica = here.host.replica; held = here.host.held }; opening = here.opening; sound = known_sound few };
+    catch_up = record { stand = record { log = here.log; replica = here.host.replica; held = here.host.held }; opening = here.opening };
     fits = may.fits;
     short = may.short;
   }
 
-  module _ (request : Request) (good : asked.bad_context ≡ None) (passes : request_in (machines c.kind) c host.0 h'.known asked ≡ Ok request) (few : h'.known ≤ newest c) where
+  module _ (request : Request) (good : asked.bad_context ≡ None) (passes : request_in (machines c.kind) c host.0 h'.known asked ≡ Ok request) where
     passed_turn : (x : Stop) (fails : Bool) → turn_of (machines c.kind) g (events.Request host clock asked x) fails ≡ served_caught_up (machines c.kind) c h' host.0 clock.0 request x fails
     passed_turn x fails = good_turn x fails (Ok request) good passes
 
@@ -131,35 +158,22 @@ module _ (machines : ℕ → Machine) (g : Group) (s : Shared) (host : HostNo) (
 
     -- ---- memory was wanted
 
-    -- the turn without a stop leaves the host where it caught up, or further on
-    abbrev whole_turn : Turn
-    whole_turn = turn_of (machines c.kind) g (events.Request host clock asked Never) false
-
-    abbrev whole_served : Turn
-    whole_served = served (machines c.kind) (with_ran (length c.journal) c) (caught_up c h') host.0 clock.0 request Never false
-
-    whole_is : whole_turn ≡ served_caught_up (machines c.kind) c h' host.0 clock.0 request Never false
-    whole_is = passed_turn Never false
-
     short_left : (before now : Parts) → now ≡ before → LogStands machines c before.log → HostStands machines c (after before.replica before.held) h' →
         IsShort machines g (events.Request host clock asked stop) before.steps (seen now.log (after now.replica now.held) now.steps)
     short_left before now same log stands =
         let same_ran : with_ran h.place.position c ≡ c = with_ran-same c h.place.position here.sound.position in
-        let w = whole (machines c.kind) (with_ran (length c.journal) c) (caught_up c h') host.0 clock.0 request refl in
         rw same (record {
           left = record { common = with_ran h.place.position c; hosts = put g.hosts host.0 h' };
           lean = leans.partly (record {
+            up = own_up;
             host = h';
-            up = refl;
-            known = inr (sym (ap (λ (t : Turn). t.host.known) whole_is ∙ w.known));
-            place = record { from = h.place; begins = inl refl; same = refl; on = omega arith; no_further = inl refl };
-            holdback = inl (sym (all_numbers c.journal c.ran h.place.position h.holdback p.held here.host.held));
+            part = ((request, record { good = good; is = passes }), record { known = h'.known; knows = inr refl; come = inl refl });
             is = refl;
           });
           log = subst (λ (d : Common). LogStands machines d before.log) (sym same_ran) log;
           host = subst (λ (x : Host). HostStands machines (with_ran h.place.position c) (after before.replica before.held) x) (sym (put-same g.hosts host.0 h'))
               (subst (λ (d : Common). HostStands machines d (after before.replica before.held) h') (sym same_ran) stands);
-          sound = subst (λ (x : Host). IsSoundHost (with_ran h.place.position c) x) (sym (put-same g.hosts host.0 h')) (subst (λ (d : Common). IsSoundHost d h') (sym same_ran) (known_sound few));
+          sound = subst (λ (x : Host). IsSoundHost (with_ran h.place.position c) x) (sym (put-same g.hosts host.0 h')) (subst (λ (d : Common). IsSoundHost d h') (sym same_ran) known_sound);
           calls = omega arith;
         })
 
@@ -170,22 +184,18 @@ module _ (machines : ℕ → Machine) (g : Group) (s : Shared) (host : HostNo) (
         let come = stopped.come in
         let there = caught_up_to c h' n in
         let stands = host_of_parts (with_ran n c) there now come.stand refl refl in
-        let w = whole (machines c.kind) (with_ran (length c.journal) c) (caught_up c h') host.0 clock.0 request refl in
-        let further : n ≤ whole_turn.host.place.position = subst (λ (t : Turn). n ≤ t.host.place.position) (sym whole_is) (omega (arith, w.further, come.last)) in
         record {
           left = record { common = with_ran n c; hosts = put g.hosts host.0 there };
           lean = leans.partly (record {
+            up = own_up;
             host = there;
-            up = refl;
-            known = inr (sym (ap (λ (t : Turn). t.host.known) whole_is ∙ w.known));
-            place = record { from = start_of c h.place; begins = inr (refl, tt, ap (λ (t : Turn). t.host.place.loaded) whole_is ∙ w.loaded ∙ come.loaded); same = refl; on = come.first; no_further = inr further };
-            holdback = inl refl;
+            part = ((request, record { good = good; is = passes }), record { known = h'.known; knows = inr refl; come = inr (n, come.first, come.last, refl) });
             is = refl;
           });
           log = come.stand.log;
           host = subst (λ (x : Host). HostStands machines (with_ran n c) (after now.replica now.held) x) (sym (put-same g.hosts host.0 there)) stands;
           sound = subst (λ (x : Host). IsSoundHost (with_ran n c) x) (sym (put-same g.hosts host.0 there))
-              (sound_of machines (with_ran n c) _ there stands few (λ no. let e : true ≡ false = sym come.loaded ∙ no in absurd cc) (λ passive. ap (from n) (here.sound.passive passive)));
+              (sound_of machines (with_ran n c) _ there stands own_up may_know (λ no. let e : true ≡ false = sym come.loaded ∙ no in absurd cc) (λ passive. ap (from n) (here.sound.passive passive)));
           calls = subst (λ (t : Turn). now.steps ≤ before.steps + t.calls) (sym (passed_turn stop false)) (omega (arith, stopped.calls));
         }
 
@@ -205,16 +215,16 @@ module _ (machines : ℕ → Machine) (g : Group) (s : Shared) (host : HostNo) (
         record {
           left = record { common = d; hosts = put g.hosts host.0 (blank true) };
           lean = leans.unrun (record {
-            up = sym here.host.up ∙ is_up;
+            up = own_up;
             clock = clock.0;
             request = request;
             new = unrun.new;
-            asks = (refl, good, passes);
+            asks = (refl, unrun.to_run, record { good = good; is = passes });
             is = refl;
           });
           log = unrun.stand.log;
           host = subst (λ (x : Host). HostStands machines d (forgotten true (after now.replica now.held)) x) (sym (put-same g.hosts host.0 (blank true))) stands;
-          sound = subst (λ (x : Host). IsSoundHost d x) (sym (put-same g.hosts host.0 (blank true))) (record { known = omega arith; base = omega arith; position = omega arith; unloaded = λ no. (refl, refl); held = tt; passive = λ passive. refl });
+          sound = subst (λ (x : Host). IsSoundHost d x) (sym (put-same g.hosts host.0 (blank true))) (record { known = (omega arith, inl refl); base = omega arith; position = omega arith; unloaded = λ no. (refl, refl); held = tt; passive = λ passive. refl; down = λ no. absurd cc });
           calls = subst (λ (t : Turn). now.steps ≤ before.steps + t.calls) (sym (passed_turn stop false)) (omega (arith, unrun.calls, calls));
         }
 

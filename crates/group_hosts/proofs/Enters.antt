@@ -134,6 +134,7 @@ module _ (machines : ℕ → Machine) (c : Common) (h : Host) (style : Style) (k
       let same : joined c1 (max clock c.time) request ≡ d = ap (λ (k : ℕ). record (joined c (max clock c.time) request) { ran = k }) ran in
       record {
         new = unrun.0;
+        to_run = unrun.1.to_run;
         stand = record {
           log = subst (λ (x : Common). LogStands machines x now.log) same unrun.1.log;
           replica = subst (λ (x : Common). ReplicaStands machines x now.replica nowhere) same unrun.1.replica;

@@ -1,6 +1,8 @@
 -- What comes to a host from others, and its stops and starts.
-use Rattle.std.proofs.Common.{◌≡◌, ℕ, ◌+◌, ◌-◌, ◌<◌, ◌≤◌, inl, inr, ◌⊎◌, Bool, true, false, List, [], ◌∷◌, refl, sym, subst, ap, ◌∙◌, arith, eq-eqb}
+use Rattle.std.proofs.Common.{◌≡◌, ℕ, ◌+◌, ◌-◌, ◌<◌, ◌≤◌, inl, inr, ◌⊎◌, Bool, true, false, List, [], ◌∷◌, length, refl, sym, subst, ap, ◌∙◌, arith, eq-eqb}
 use Rattle.std.specs.Prelude.{not, ◌||◌, nat_eq, nat_lt, if◌then◌else◌}
+use Rattle.std.proofs.lemmas.Bool.Decides.{nat_tests}
+use Rattle.std.specs.List.{filter}
 use Rattle.ft_base.specs.Machine.{Machine}
 use Rattle.ft_base.specs.declared.decisions.Ignored.TheVariants as causes
 use Rattle.ft_base.specs.declared.numbers.HostNo.{HostNo}
@@ -14,7 +16,6 @@ use Rattle.group_model.specs.declared.events.GroupAnswer.{GroupAnswer}
 use Rattle.group_model.specs.declared.events.GroupAnswer.TheVariants as answers
 use Rattle.group_model.specs.Agreeing.{IsSoundHost}
 use Rattle.group_model.specs.Events.{if_up, turn_of, host_of}
-use Rattle.group_model.specs.Lean.{IsLean, IsPartly, IsOnTheWay, without_stop}
 use Rattle.group_model.specs.Lean as leans
 use Rattle.group_model.specs.Plain.{Common, Host, Group, blank, from, with_number, reach, loaded_at, put, with_ran}
 use Rattle.group_model.specs.Transfers.{on_state, on_update, on_order, brought_to, ignoring, holding, ordered}
@@ -39,6 +40,11 @@ use Rattle.group_hosts.proofs.Shapes.{either}
 -- the host that is put there
 pub put-same : (hosts : ℕ → Host) (i : ℕ) (h : Host) → put hosts i h i ≡ h
 put-same hosts i h = ap (λ (b : Bool). if b then h else hosts i) (eq-eqb i i refl)
+
+-- the host is loaded, and isn't past this entry
+pub record IsToCome (h : Host) (i : ℕ) : Type 0 where
+  pub loaded : h.place.loaded ≡ true
+  pub to_come : h.place.position ≤ i
 
 module _ (machines : ℕ → Machine) (g : Group) (s : Shared) (host : HostNo) (p : HostPicture) (here : IsHere machines g.common (g.hosts host.0) s p) where
   abbrev c : Common
@@ -111,7 +117,7 @@ module _ (machines : ℕ → Machine) (g : Group) (s : Shared) (host : HostNo) (
 
     no_orders : (orders : List HeldOrder) (holdback : List ℕ) → holdback ≡ [] → HoldStands c.journal c.ran h.place.position holdback orders → orders ≡ []
     no_orders [] holdback e held = refl
-    no_orders (o ∷ orders) holdback e held = let no = held.numbers ∙ e in absurd cc
+    no_orders (o ∷ orders) holdback e held = absurd (omega (arith, held.numbers (λ i. true), ap (λ (l : List ℕ). length (filter (λ i. true) l)) e))
 
     go : (t.host ≡ h) ⊎ ((n : ℕ) × (t.host ≡ record h { place = loaded_at n })) → HostStands machines t.common (record p { replica = replica }) t.host
     go (inl same) = record {
@@ -201,38 +207,45 @@ module _ (machines : ℕ → Machine) (g : Group) (s : Shared) (host : HostNo) (
         calls = is.calls;
       })
 
+  -- one that isn't ignored has the host run on as far as it reaches
+  order_reaches : (i : ℕ) → IsToCome h i → (on_order c h i).host.place.position ≡ reach (with_number i h.holdback) h.place.position
+  order_reaches i comes =
+      let behind : nat_lt i h.place.position ≡ false = let le = comes.to_come in grind (arith, nat_tests) in
+      let runs = ordered c (holding h i) (reach (holding h i).holdback h.place.position) in
+      let late = ignoring c h (causes.Order i h.place.position) in
+      ap (λ (b : Bool). (if not b then ignoring c h causes.NotLoaded else (if nat_lt i h.place.position then late else runs)).host.place.position) comes.loaded
+      ∙ ap (λ (b : Bool). (if b then late else runs).host.place.position) behind
+
   -- memory was wanted on the way
-  order_stopped : (i : ℕ) (request : Request) (before now : OrdersSeen) → p.up ≡ true → (is_passive c.style ≡ true → ⊥) → h.place.loaded ≡ true → IsStopped machines c h i before now →
+  order_stopped : (i : ℕ) (request : Request) (before now : OrdersSeen) → p.up ≡ true → (is_passive c.style ≡ true → ⊥) → IsToCome h i → IsStopped machines c h i before now →
       IsShort machines g (events.Order host i request) before.steps (seen s.log (record p { replica = now.replica; held = now.orders }) now.steps)
-  order_stopped i request before now up active loaded is =
+  order_stopped i request before now up active comes is =
       let n = is.position in
       let after = record h { place = record h.place { position = n }; holdback = from n (with_number i h.holdback) } in
       let t = turn_of (machines c.kind) g (events.Order host i request) false in
       let whole : t ≡ on_order c h i = up_is (on_order c h i) up in
       let stands : HostStands machines c (record p { replica = now.replica; held = now.orders }) after = record { up = here.host.up; known = here.host.known; replica = is.replica; held = is.held } in
       let same : with_ran n c ≡ c = with_ran-same c n is.replica.ran in
-      let short : n ≤ t.host.place.position = subst (λ (x : Turn). n ≤ x.host.place.position) (sym whole) (omega (arith, is.short)) in
+      let last : n ≤ reach (with_number i h.holdback) h.place.position = omega (arith, is.short, order_reaches i comes) in
       let count = (order_turns i).calls (omega (arith, is.first, is.short)) in
       record {
         left = record { common = with_ran n c; hosts = put g.hosts host.0 after };
         lean = leans.partly (record {
+          up = sym here.host.up ∙ up;
           host = after;
-          up = refl;
-          known = inl refl;
-          place = record { from = h.place; begins = inl refl; same = refl; on = is.first; no_further = inr short };
-          holdback = inr (i, refl, refl);
+          part = record { loaded = comes.loaded; to_come = comes.to_come; position = n; first = is.first; last = last; is = inr refl };
           is = refl;
         });
         log = subst (λ (d : Common). LogStands machines d s.log) (sym same) here.log;
         host = subst (λ (x : Host). HostStands machines (with_ran n c) (record p { replica = now.replica; held = now.orders }) x) (sym (put-same g.hosts host.0 after))
             (subst (λ (d : Common). HostStands machines d (record p { replica = now.replica; held = now.orders }) after) (sym same) stands);
         sound = subst (λ (x : Host). IsSoundHost (with_ran n c) x) (sym (put-same g.hosts host.0 after))
-            (subst (λ (d : Common). IsSoundHost d after) (sym same) (sound_of machines c _ after stands here.sound.known (λ no. let e : true ≡ false = sym loaded ∙ no in absurd cc) (λ passive. absurd (active passive))));
+            (subst (λ (d : Common). IsSoundHost d after) (sym same) (sound_of machines c _ after stands (sym here.host.up ∙ up) here.sound.known (λ no. let e : true ≡ false = sym comes.loaded ∙ no in absurd cc) (λ passive. absurd (active passive))));
         calls = subst (λ (x : Turn). now.steps ≤ before.steps + x.calls) (sym whole) (omega (arith, is.calls, is.first, is.short, count));
       }
 
   pub order_heard : (i : ℕ) (request : Request) (o : Ordered) (before now : OrdersSeen) → p.up ≡ true → c.style ≡ Active → before.replica ≡ p.replica → before.orders ≡ p.held →
-      IsOrdered machines c h i o before now → (o ≡ orderings.NoMemory → h.place.loaded ≡ true) →
+      IsOrdered machines c h i o before now → (o ≡ orderings.NoMemory → IsToCome h i) →
       IsTurn machines g (events.Order host i request) (answer_of h.place.loaded i o) before.steps (seen s.log (record p { replica = now.replica; held = now.orders }) now.steps)
   order_heard i request (orderings.Applied position) before now up active replica held is loaded = order_taken i request (orderings.Applied position) before now up is
   order_heard i request (orderings.Held position) before now up active replica held is loaded = order_taken i request (orderings.Held position) before now up is
@@ -242,10 +255,14 @@ module _ (machines : ℕ → Machine) (g : Group) (s : Shared) (host : HostNo) (
   order_heard i request orderings.NoMemory before now up active replica held (inr stopped) loaded =
       order_stopped i request before now up (λ passive. let no : is_passive Active ≡ true = subst (λ (x : Style). is_passive x ≡ true) active passive in absurd cc) (loaded refl) stopped
 
--- an order that finds no memory comes to a host that is loaded
-pub loaded_where : (loaded past : Bool) (position : ℕ) (o : Ordered) (before now : OrdersSeen) → IsIgnoredWhere (not loaded || past) position o before now → o ≡ orderings.NoMemory → loaded ≡ true
-loaded_where true past position o before now is e = refl
-loaded_where false past position orderings.NoMemory before now is e = absurd cc
-loaded_where false past position (orderings.Applied n) before now is e = absurd cc
-loaded_where false past position (orderings.Held n) before now is e = absurd cc
-loaded_where false past position (orderings.Ignored n) before now is e = absurd cc
+-- an order that finds no memory comes to a host that is loaded and isn't past it
+to_come_where : (loaded past : Bool) → (not loaded || past) ≡ false → (loaded ≡ true) × (past ≡ false)
+to_come_where true past e = (refl, e)
+to_come_where false past e = absurd cc
+
+pub order_to_come : (loaded past : Bool) (position : ℕ) (o : Ordered) (before now : OrdersSeen) → IsIgnoredWhere (not loaded || past) position o before now → o ≡ orderings.NoMemory →
+    (loaded ≡ true) × (past ≡ false)
+order_to_come loaded past position orderings.NoMemory before now is e = to_come_where loaded past is
+order_to_come loaded past position (orderings.Applied n) before now is e = absurd cc
+order_to_come loaded past position (orderings.Held n) before now is e = absurd cc
+order_to_come loaded past position (orderings.Ignored n) before now is e = absurd cc

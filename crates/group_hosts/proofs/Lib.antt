@@ -1,5 +1,6 @@
 pub mod Shapes
 pub mod Holds
+pub mod Knows
 pub mod Sends
 pub mod Enters
 pub mod Refuses

@@ -1,7 +1,8 @@
 -- A change of members.
-use Rattle.std.proofs.Common.{◌≡◌, ℕ, ◌<◌, inl, inr, ◌⊎◌, Bool, true, false, List, [], ◌∷◌, ◌++◌, length, refl, sym, subst, ap, ◌∙◌, arith}
-use Rattle.std.specs.Prelude.{Option, Some, None, Ok, Err, nat_le, slice_get, if◌then◌else◌}
+use Rattle.std.proofs.Common.{◌≡◌, ℕ, ◌<◌, ◌-◌, inl, inr, ◌⊎◌, Bool, true, false, List, [], ◌∷◌, ◌++◌, length, refl, sym, subst, ap, ◌∙◌, arith}
+use Rattle.std.specs.Prelude.{Option, Some, None, Ok, Err, nat_le, if◌then◌else◌}
 use Rattle.std.proofs.lemmas.Bool.Decides.{nat_tests}
+use Rattle.std.proofs.lemmas.Option.{slice_get-get_or}
 use Rattle.std.specs.List.{AllByRecursion}
 use Rattle.ft_base.specs.Machine.{Machine}
 use Rattle.ft_base.specs.Members.{AreDifferent}
@@ -25,29 +26,28 @@ use Rattle.group_model.specs.Events.{is_fault_of_log, shows_fault}
 use Rattle.group_model.specs.Lean as leans
 use Rattle.group_model.specs.Plain.{Common, Host, Group}
 use Rattle.group_model.specs.Turns.{Turn}
-use Rattle.group_model.specs.Views.{newest_view}
+use Rattle.group_model.specs.Views.{newest_view, no_view}
 use Rattle.group_stands.specs.Going.{LogsGoOnBeside}
 use Rattle.group_stands.specs.Stands.{LogStands}
 use Rattle.group_stands.specs.Telling.{LogsTell}
 use Rattle.group_stands.specs.Viewing.{ViewsJoin, ReplicasGoOnViewed}
 use Rattle.group_hosts.specs.Hosts.{HostPicture, HostStands, IsHere, Shared}
 use Rattle.group_hosts.specs.Turning.{seen, IsTurn}
+use Rattle.group_hosts.specs.Keeping.{WroteNothing, WroteRefused}
 use Rattle.group_hosts.specs.Managing.{CanManage, IsManaged}
 
--- the last of the log's views
-last_there : (earlier : List View) (v : View) → slice_get (earlier ++ v ∷ []) (length earlier) ≡ Some v
-last_there [] v = refl
-last_there (x ∷ earlier) v = last_there earlier v
-
 module _ (machines : ℕ → Machine) (c : Common) (style : Style) (change : Change) (log : LogPicture) (can : CanManage machines c style change log) where
-  newest_is_view : IsViewAt c.style (length log.earlier) log.newest
-  newest_is_view = can.log.sound.views.each (length log.earlier) log.newest (rw (← can.log.views) (last_there log.earlier log.newest))
+  -- the log's newest view is the last of its group's
+  newest_is_view : LogsTell → IsViewAt c.style (length c.views - 1) log.newest
+  newest_is_view tell =
+      let views = can.log.sound.views in
+      rw ((tell machines c log can.log).view) (views.each (length c.views - 1) (newest_view c) (slice_get-get_or c.views (length c.views - 1) no_view (omega (arith, views.some))))
 
-  pub differ : AreDifferent log.newest.members
-  differ = newest_is_view.is.different
+  pub differ : LogsTell → AreDifferent log.newest.members
+  differ tell = (newest_is_view tell).is.different
 
-  pub are_hosts : AllByRecursion (λ host. host < HOST_LIMIT) log.newest.members
-  are_hosts = newest_is_view.hosts
+  pub are_hosts : LogsTell → AllByRecursion (λ host. host < HOST_LIMIT) log.newest.members
+  are_hosts tell = (newest_is_view tell).hosts
 
   -- what the plain group looks at is the log's newest view
   rows_are : LogsTell → first_fault (change_rows style log.newest change) ≡ first_fault (change_rows c.style (newest_view c) change)
@@ -64,7 +64,7 @@ module _ (machines : ℕ → Machine) (c : Common) (style : Style) (change : Cha
       let tells = tell machines c log can.log in
       let may' : first_fault (change_rows c.style (newest_view c) change) ≡ None = sym (rows_are tell) ∙ may in
       let next : view ≡ next_view c.style (newest_view c) change = is ∙ ap (λ (s : Style). next_view s log.newest change) can.style ∙ ap (λ (v : View). next_view c.style v change) tells.view in
-      let joined = joins machines c log can.log change view (record { host = can.host; may = may'; is = next }) in
+      let joined = joins machines c log can.log change view (record { hosts = can.hosts; may = may'; is = next }) in
       let after : LogStands machines (with_view c view) new = subst (LogStands machines (with_view c view)) (sym viewed.2) (beside machines (with_view c view) (logs.with_view log view) joined None _ _ _) in
       let e : on_manage c h change false ≡ changed_or c h change false None = ap (changed_or c h change false) may' in
       let plain = next_view c.style (newest_view c) change in
@@ -97,6 +97,24 @@ not_full style view change none full =
     let below : nat_le VIEW_LIMIT view.version.0 ≡ false = all.1.1.1.1.1.1.1.0 in
     let at : nat_le VIEW_LIMIT view.version.0 ≡ true = grind (arith, nat_tests) in
     let no' : true ≡ false = sym at ∙ below in absurd cc
+
+-- ---- a change that is refused by a row writes nothing
+
+module _ (log : LogPicture) where
+  rows_quiet : (rows : List ChangeRow) → AllByRecursion (λ (r : ChangeRow). WroteRefused r.fault log log) rows → (fault : ManageFault) → first_fault rows ≡ Some fault → WroteRefused fault log log
+  rows_quiet [] all fault is = absurd cc
+  rows_quiet (r ∷ rows) all fault is = go r.stands is (rows_quiet rows all.1 fault) where
+    some_is : (x y : ManageFault) → Some x ≡ Some y → x ≡ y
+    some_is x y e = cc
+
+    go : (b : Bool) → (if b then Some r.fault else first_fault rows) ≡ Some fault → (first_fault rows ≡ Some fault → WroteRefused fault log log) → WroteRefused fault log log
+    go true e rest = subst (λ (x : ManageFault). WroteRefused x log log) (some_is r.fault fault e) all.0
+    go false e rest = rest e
+
+  pub refused_quiet : (style : Style) (view : View) (change : Change) (fault : ManageFault) → first_fault (change_rows style view change) ≡ Some fault → WroteRefused fault log log
+  refused_quiet style view change fault is =
+      let nothing : WroteNothing log log = (refl, refl) in
+      rows_quiet (change_rows style view change) (nothing, (nothing, (nothing, (nothing, (nothing, (nothing, (nothing, (nothing, tt)))))))) fault is
 
 -- ---- what a change leaves
 

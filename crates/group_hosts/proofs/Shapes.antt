@@ -1,5 +1,5 @@
 -- What the plain group's turns leave of their host.
-use Rattle.std.proofs.Common.{◌≡◌, ℕ, ◌≤◌, max, Bool, true, false, [], length, refl, ap, ◌∙◌, arith}
+use Rattle.std.proofs.Common.{◌≡◌, ℕ, max, Bool, true, false, [], refl, ap, ◌∙◌}
 use Rattle.std.specs.Prelude.{Some, None, List, ◌&&◌, if◌then◌else◌}
 use Rattle.ft_base.specs.Members.{is_member}
 use Rattle.ft_base.specs.declared.views.Style.{Style}
@@ -70,24 +70,6 @@ shaped m c h host clock q stop fails = shaped_admitted m c h host (max clock c.t
 pub nothing_held : (h : Host) (t : Turn) → IsShaped h t → h.holdback ≡ [] → t.host.holdback ≡ []
 nothing_held h t (going is) none = is.nothing none
 nothing_held h t (ended is) none = ap (λ (x : Host). x.holdback) is.gone
-
--- ---- without a stop and without a failing write
-
--- the host knows what it knew, is loaded, and has run as much at least
-pub record IsWhole (h : Host) (t : Turn) : Type 0 where
-  pub known : t.host.known ≡ h.known
-  pub loaded : t.host.place.loaded ≡ h.place.loaded
-  pub further : h.place.position ≤ t.host.place.position
-
-whole_admitted : (m : Machine) (c : Common) (h : Host) (host now : ℕ) (q : Request) (a : Admission) → h.place.position ≡ length c.journal → IsWhole h (admitted m c h host now q Never false a)
-whole_admitted m c h host now q (Expired e) end = record { known = refl; loaded = refl; further = omega arith }
-whole_admitted m c h host now q (Same i) end = record { known = refl; loaded = refl; further = omega arith }
-whole_admitted m c h host now q (Other i) end = record { known = refl; loaded = refl; further = omega arith }
-whole_admitted m c h host now q Full end = record { known = refl; loaded = refl; further = omega arith }
-whole_admitted m c h host now q New end = record { known = refl; loaded = refl; further = omega (arith, end) }
-
-pub whole : (m : Machine) (c : Common) (h : Host) (host clock : ℕ) (q : Request) → h.place.position ≡ length c.journal → IsWhole h (served m c h host clock q Never false)
-whole m c h host clock q end = whole_admitted m c h host (max clock c.time) q (admission c.journal (max clock c.time) q) end
 
 -- ---- the servant calls of a new request
 

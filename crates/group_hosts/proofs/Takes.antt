@@ -13,7 +13,7 @@ use Rattle.group_model.specs.declared.events.GroupAnswer.TheVariants as answers
 use Rattle.group_model.specs.Agreeing.{IsSoundHost}
 use Rattle.group_model.specs.Events.{turn, host_of, shows_fault}
 use Rattle.group_model.specs.Lean as leans
-use Rattle.group_model.specs.Plain.{Common, Host, Group, from, start_of, caught_up, caught_up_to, put, with_ran}
+use Rattle.group_model.specs.Plain.{Common, Host, Group, from, start_of, caught_up_to, put, with_ran}
 use Rattle.group_model.specs.Serving.{calls_behind}
 use Rattle.group_model.specs.Transfers.{taking, checkpoint_written, on_checkpoint, update_taken, on_send_update}
 use Rattle.group_model.specs.Turns.{Turn, costing}
@@ -25,7 +25,8 @@ use Rattle.group_hosts.specs.Hosts.{HostPicture, HostStands, IsHere, Shared}
 use Rattle.group_hosts.specs.Taking.{Gave, IsGiven, IsReady, IsUnready, informed}
 use Rattle.group_hosts.specs.Turning.{seen, IsTaken, IsShort, IsTurn}
 use Rattle.group_hosts.proofs.Hears.{put-same, up_is}
-use Rattle.group_hosts.proofs.Holds.{sound_of, with_ran-same, all_numbers}
+use Rattle.group_hosts.proofs.Holds.{sound_of, with_ran-same}
+use Rattle.group_hosts.proofs.Knows.{newest_known}
 
 -- ---- the host knows the newest view, and catches up
 
@@ -34,7 +35,6 @@ module _ (machines : ℕ → Machine) (c : Common) (h : Host) (s : Shared) (p : 
   informed_can steps = record {
     stand = record { log = here.log; replica = here.host.replica; held = here.host.held };
     opening = here.opening;
-    sound = record { known = omega arith; base = here.sound.base; position = here.sound.position; unloaded = here.sound.unloaded; held = here.sound.held; passive = here.sound.passive };
   }
 
   -- what it knows is the log's newest version
@@ -82,35 +82,23 @@ module _ (machines : ℕ → Machine) (g : Group) (s : Shared) (e : Event) (p : 
   abbrev own : Host
   own = g.hosts (host_of e)
 
-  -- the event without its stop
-  abbrev whole : Turn
-  whole = turn (machines shares.kind) shares own (leans.without_stop e) false
-
-  -- an event without a stop that has its host know the newest view and catch up, whatever comes then
+  -- an event that has its host, which is up, know the newest view and catch up, whatever comes then
   pub record IsTaking (t : Turn) : Type 0 where
-    pub stopless : leans.without_stop e ≡ e
-    pub catches_up : leans.CatchesUp e
-    pub turn : whole ≡ costing (calls_behind shares own) t
-    pub known : t.host.known ≡ newest shares
-    pub loaded : t.host.place.loaded ≡ (caught_up shares own).place.loaded
-    pub further : length shares.journal ≤ t.host.place.position
+    pub up : own.up ≡ true
+    pub part : (x : Host) → leans.IsOnTheWay shares own (newest shares) x → leans.LeavesPart (machines shares.kind) g e x
+    pub turn : turn (machines shares.kind) shares own e false ≡ costing (calls_behind shares own) t
 
   module _ (t : Turn) (is : IsTaking t) (before now : ℕ) (calls : now ≤ before + calls_behind shares own) where
     enough : now ≤ before + (turn (machines shares.kind) shares own e false).calls
-    enough =
-        subst (λ (x : Event). now ≤ before + (turn (machines shares.kind) shares own x false).calls) is.stopless
-        (subst (λ (x : Turn). now ≤ before + x.calls) (sym is.turn) (omega (arith, calls)))
-
-    knows_newest : whole.host.known ≡ newest shares
-    knows_newest = ap (λ (x : Turn). x.host.known) is.turn ∙ is.known
+    enough = subst (λ (x : Turn). now ≤ before + x.calls) (sym is.turn) (omega (arith, calls))
 
     -- what it leaves, where the host is this one
-    left_by : (x : Host) (log : LogPicture) (picture : HostPicture) → x.up ≡ own.up → x.known ≡ newest shares → leans.IsOnTheWay shares e own.place x.place whole.host.place →
-        x.holdback ≡ from x.place.position own.holdback → LogStands machines (with_ran x.place.position shares) log → HostStands machines (with_ran x.place.position shares) picture x →
+    left_by : (x : Host) (log : LogPicture) (picture : HostPicture) → leans.IsOnTheWay shares own (newest shares) x →
+        LogStands machines (with_ran x.place.position shares) log → HostStands machines (with_ran x.place.position shares) picture x →
         IsSoundHost (with_ran x.place.position shares) x → IsShort machines g e before (seen log picture now)
-    left_by x log picture same_up known place holdback log_stands host_stands sound = record {
+    left_by x log picture way log_stands host_stands sound = record {
       left = record { common = with_ran x.place.position shares; hosts = put g.hosts (host_of e) x };
-      lean = leans.partly (record { host = x; up = same_up; known = inr (known ∙ sym knows_newest); place = place; holdback = inl holdback; is = refl });
+      lean = leans.partly (record { up = is.up; host = x; part = is.part x way; is = refl });
       log = log_stands;
       host = subst (λ (y : Host). HostStands machines (with_ran x.place.position shares) picture y) (sym (put-same g.hosts (host_of e) x)) host_stands;
       sound = subst (λ (y : Host). IsSoundHost (with_ran x.place.position shares) y) (sym (put-same g.hosts (host_of e) x)) sound;
@@ -121,10 +109,10 @@ module _ (machines : ℕ → Machine) (g : Group) (s : Shared) (e : Event) (p : 
     short_at_once : (log : LogPicture) (picture : HostPicture) → LogStands machines shares log → HostStands machines shares picture (informed shares own) → IsShort machines g e before (seen log picture now)
     short_at_once log picture stands host_stands =
         let same : with_ran own.place.position shares ≡ shares = with_ran-same shares own.place.position here.sound.position in
-        let sound : IsSoundHost shares (informed shares own) = record { known = omega arith; base = here.sound.base; position = here.sound.position; unloaded = here.sound.unloaded; held = here.sound.held; passive = here.sound.passive } in
-        left_by (informed shares own) log picture refl refl
-        (record { from = own.place; begins = inl refl; same = refl; on = omega arith; no_further = inl refl })
-        (sym (all_numbers shares.journal shares.ran own.place.position own.holdback p.held here.host.held))
+        let sound : IsSoundHost shares (informed shares own) =
+        sound_of machines shares picture (informed shares own) host_stands is.up (newest_known machines shares s.log here.log) here.sound.unloaded here.sound.passive in
+        left_by (informed shares own) log picture
+        (record { known = newest shares; knows = inr refl; come = inl refl })
         (subst (λ (d : Common). LogStands machines d log) (sym same) stands)
         (subst (λ (d : Common). HostStands machines d picture (informed shares own)) (sym same) host_stands)
         (subst (λ (d : Common). IsSoundHost d (informed shares own)) (sym same) sound)
@@ -134,12 +122,10 @@ module _ (machines : ℕ → Machine) (g : Group) (s : Shared) (e : Event) (p : 
         LogStands machines (with_ran n shares) log → HostStands machines (with_ran n shares) picture (caught_up_to shares (informed shares own) n) → IsShort machines g e before (seen log picture now)
     short_there log picture n loaded first last log_stands host_stands =
         let there = caught_up_to shares (informed shares own) n in
-        let loads : whole.host.place.loaded ≡ true = ap (λ (x : Turn). x.host.place.loaded) is.turn ∙ is.loaded ∙ loaded in
-        let further : n ≤ whole.host.place.position = subst (λ (x : Turn). n ≤ x.host.place.position) (sym is.turn) (omega (arith, is.further, last)) in
-        left_by there log picture refl refl
-        (record { from = start_of shares own.place; begins = inr (refl, is.catches_up, loads); same = refl; on = first; no_further = inr further })
-        refl log_stands host_stands
-        (sound_of machines (with_ran n shares) picture there host_stands (omega arith) (λ no. let impossible : true ≡ false = sym loaded ∙ no in absurd cc) (λ passive. ap (from n) (here.sound.passive passive)))
+        left_by there log picture
+        (record { known = newest shares; knows = inr refl; come = inr (n, first, last, refl) })
+        log_stands host_stands
+        (sound_of machines (with_ran n shares) picture there host_stands is.up (newest_known machines shares s.log here.log) (λ no. let impossible : true ≡ false = sym loaded ∙ no in absurd cc) (λ passive. ap (from n) (here.sound.passive passive)))
 
     pub short_unready : (log : LogPicture) (picture : HostPicture) → IsUnready machines shares own log picture → IsTurn machines g e answers.NoMemory before (seen log picture now)
     short_unready log picture (inl at_once) = short_at_once log picture at_once.0 at_once.1
@@ -159,22 +145,16 @@ module _ (machines : ℕ → Machine) (g : Group) (s : Shared) (host : HostNo) (
 
   pub checkpoint_takes : (clock : Tick) → IsTaking machines g s (events.Checkpoint host clock) p here (checkpoint_written (machines c.kind) d (taking c h) host.0 clock.0 false)
   checkpoint_takes clock = record {
-    stopless = refl;
-    catches_up = tt;
+    up = sym here.host.up ∙ up;
+    part = λ x way. way;
     turn = up_is machines g s host p here (on_checkpoint (machines c.kind) c h host.0 clock.0 false) up;
-    known = refl;
-    loaded = refl;
-    further = omega arith;
   }
 
   pub update_takes : IsTaking machines g s (events.SendUpdate host) p here (update_taken (machines c.kind) d (taking c h) host.0)
   update_takes = record {
-    stopless = refl;
-    catches_up = tt;
+    up = sym here.host.up ∙ up;
+    part = λ x way. way;
     turn = up_is machines g s host p here (on_send_update (machines c.kind) c h host.0) up;
-    known = refl;
-    loaded = refl;
-    further = omega arith;
   }
 
   -- what such a turn leaves

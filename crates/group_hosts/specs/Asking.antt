@@ -12,8 +12,8 @@ use Rattle.group_model.specs.declared.events.GroupAnswer.{GroupAnswer}
 use Rattle.ft_base.specs.Admissions.{admission}
 use Rattle.ft_base.specs.declared.admissions.Admission.TheVariants.{New}
 use Rattle.group_model.specs.declared.events.GroupAnswer.TheVariants.{NoMemory}
-use Rattle.group_model.specs.Agreeing.{IsSoundHost}
 use Rattle.group_model.specs.Events.{is_log_fault}
+use Rattle.group_model.specs.Lean.{IsToRun}
 use Rattle.group_model.specs.Plain.{Common, Host, blank, start_of, caught_up_to, with_ran}
 use Rattle.group_model.specs.Serving.{joined, calls_behind, served_caught_up}
 use Rattle.group_model.specs.Turns.{Turn}
@@ -23,7 +23,7 @@ use Rattle.passive_dispatch.specs.Served.{calls_by}
 use Rattle.passive_dispatch.specs.declared.serving.Replied.{Replied}
 use Rattle.active_sequencer.specs.Sequences.{replied_as}
 use Rattle.group_hosts.specs.Hosts.{HostPicture, forgotten}
-use Rattle.group_hosts.specs.Keeping.{WroteBy, WroteNothing, Wrote}
+use Rattle.group_hosts.specs.Keeping.{WroteBy, WroteShort}
 use Rattle.group_hosts.specs.declared.entering.Entered.{Entered}
 use Rattle.group_hosts.specs.declared.entering.Entered.TheVariants.{Done, Short, Unrun}
 
@@ -44,11 +44,10 @@ pub record PartsStand (machines : ℕ → Machine) (c : Common) (h : Host) (now 
   pub replica : ReplicaStands machines c now.replica h.place
   pub held : HoldStands c.journal c.ran h.place.position h.holdback now.held
 
--- so do they where the host is sound, and its group was made with such a servant
+-- so do they, and the group was made with such a servant
 pub record CanCatchUp (machines : ℕ → Machine) (c : Common) (h : Host) (kind : ℕ) (state : List ℕ) (now : Parts) : Type 0 where
   pub stand : PartsStand machines c h now
   pub opening : OpeningStands c kind state
-  pub sound : IsSoundHost c h
 
 -- ---- catching up
 
@@ -82,9 +81,10 @@ pub record IsAnswered (machines : ℕ → Machine) (t : Turn) (replied : Replied
   pub told : t.answer ≡ replied_as replied
   pub calls : now.steps ≡ before + t.calls
 
--- the request was new and joined, and no memory was found to run it, or for the copy of its outcome
+-- the request was new and joined, its host was to run it, and no memory was found for that, or for the copy of its outcome
 pub record HasJoinedUnrun (machines : ℕ → Machine) (c : Common) (h : Host) (clock : ℕ) (request : Request) (stop : Stop) (before : ℕ) (now : Parts) : Type 0 where
   pub new : admission c.journal (max clock c.time) request ≡ New
+  pub to_run : IsToRun stop
   pub stand : PartsStand machines (record (joined c (max clock c.time) request) { ran = length c.journal }) (blank true) now
   pub calls : now.steps ≤ before + (calls_behind c h + calls_by stop)
 
@@ -96,8 +96,8 @@ IsEntered machines c h host clock request stop Unrun before now = HasJoinedUnrun
 
 abbrev pub WroteEntered : Entered → LogPicture → LogPicture → Type 0
 WroteEntered (Done replied) old new = WroteBy replied.decision old new
-WroteEntered Short old new = WroteNothing old new ⊎ Wrote old new
-WroteEntered Unrun old new = WroteNothing old new ⊎ Wrote old new
+WroteEntered Short old new = WroteShort old new
+WroteEntered Unrun old new = WroteShort old new
 
 -- ---- the host behind it
 

@@ -1,5 +1,6 @@
 -- What an event leaves of its group's keeper: whether it wrote, and whether that failed.
-use Rattle.std.specs.Prelude.{◌≡◌, ℕ, true, false, List, ◌⊎◌}
+use Rattle.std.specs.Prelude.{◌≡◌, ℕ, true, false, List, [], ◌∷◌, ◌++◌, ◌⊎◌}
+use Rattle.ft_base.specs.Journal.{Entry}
 use Rattle.ft_base.specs.declared.decisions.Decision.{Decision}
 use Rattle.ft_base.specs.declared.decisions.Decision.TheVariants as decisions
 use Rattle.ft_outside.specs.Keeping.{plan_after, IsForetold}
@@ -23,6 +24,18 @@ pub record Wrote (old new : LogPicture) : Type 0 where
   pub foretold : IsForetold old.plan false
   pub plan : new.plan ≡ plan_after old.plan
   pub faults : new.faults ≡ old.faults
+
+-- the log has the same entries, or one more
+abbrev pub HasSameEntries : LogPicture → LogPicture → Type 0
+HasSameEntries old new = (new.mark ≡ old.mark) × (new.entries ≡ old.entries)
+
+abbrev pub HasOneMore : LogPicture → LogPicture → Type 0
+HasOneMore old new = (entry : Entry) × (new.mark ≡ old.mark) × (new.entries ≡ old.entries ++ entry ∷ [])
+
+-- Where memory was wanted: nothing was written, and the log has the entries of before; or one record was written, and the log
+-- has one entry more.
+abbrev pub WroteShort : LogPicture → LogPicture → Type 0
+WroteShort old new = (WroteNothing old new × HasSameEntries old new) ⊎ (Wrote old new × HasOneMore old new)
 
 -- the one write failed
 pub record FailedToWrite (old new : LogPicture) : Type 0 where
@@ -54,15 +67,15 @@ abbrev pub WroteTaken : Event → LogPicture → LogPicture → Type 0
 WroteTaken (events.Checkpoint host clock) old new = WroteCheckpoint old new
 WroteTaken other old new = WroteNothing old new
 
--- By an event and its answer. Want of memory comes before the one write, or behind it where the servant found
--- none.
+-- By an event and its answer. Want of memory comes before the one write, or behind that of an entry that its host was to
+-- run.
 abbrev pub WroteFor : Event → GroupAnswer → LogPicture → LogPicture → Type 0
 WroteFor e (answers.Reply decision answer out) old new = WroteBy decision old new
 WroteFor e (answers.Changed view out) old new = Wrote old new
 WroteFor e (answers.Refused fault) old new = WroteRefused fault old new
 WroteFor e (answers.Taken from position out) old new = WroteTaken e old new
 WroteFor e answers.LogFault old new = FailedToWrite old new
-WroteFor e answers.NoMemory old new = WroteNothing old new ⊎ Wrote old new
+WroteFor e answers.NoMemory old new = WroteShort old new
 WroteFor e other old new = WroteNothing old new
 
 -- so it is told, whatever the event, where nothing was written

@@ -1,7 +1,6 @@
 -- What a change of members leaves of a group's log.
 use Rattle.std.specs.Prelude.{◌≡◌, ℕ, ◌<◌, None}
 use Rattle.ft_base.specs.Machine.{Machine}
-use Rattle.ft_base.specs.declared.limits.TheConstants.{HOST_LIMIT}
 use Rattle.ft_base.specs.declared.views.Style.{Style}
 use Rattle.message_log.specs.Picture.{Picture as LogPicture}
 use Rattle.group_model.specs.declared.events.GroupAnswer.{GroupAnswer}
@@ -10,16 +9,16 @@ use Rattle.group_model.specs.Events.{shows_fault}
 use Rattle.group_model.specs.Plain.{Common}
 use Rattle.group_model.specs.Turns.{Turn}
 use Rattle.group_model.specs.declared.changes.Change.{Change}
-use Rattle.group_model.specs.Changes.{change_rows, first_fault, on_manage, host_of_change}
+use Rattle.group_model.specs.Changes.{NamesHosts, change_rows, first_fault, on_manage}
 use Rattle.group_model.specs.Plain.{Host}
 use Rattle.group_model.specs.Views.{newest_view}
 use Rattle.group_stands.specs.Stands.{LogStands}
 
--- a group of this style, its log, and a change of a host that there can be
+-- a group of this style, its log, and a change of hosts that there can be
 pub record CanManage (machines : ℕ → Machine) (c : Common) (its_style : Style) (change : Change) (its_log : LogPicture) : Type 0 where
   pub style : its_style ≡ c.style
   pub log : LogStands machines c its_log
-  pub host : (host_of_change change).0 < HOST_LIMIT
+  pub hosts : NamesHosts change
 
 -- the log and the answer are those of the plain group's turn
 pub record Changes (machines : ℕ → Machine) (t : Turn) (answer : GroupAnswer) (its_log : LogPicture) : Type 0 where

@@ -47,7 +47,8 @@ fn host_of_change(change: &Change) -> HostNo
         | Change::Remove(host)
         | Change::Add(host)
         | Change::Create { host, .. }
-        | Change::Primary(host) => *host,
+        | Change::Primary(host)
+        | Change::Replace { host, .. } => *host,
     }
 }
 

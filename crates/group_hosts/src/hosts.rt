@@ -1,11 +1,11 @@
 //! A host's part in its group.
-ghost use Rattle.std.specs.Prelude.{◌≡◌, ◌+◌, ◌≤◌, ℕ, Some, None, [], IfOk, OnOk, OnErr, option_copied, if◌then◌else◌};
+ghost use Rattle.std.specs.Prelude.{◌≡◌, ◌+◌, ◌≤◌, ℕ, Some, None, [], true, IfOk, OnOk, OnErr, option_copied, if◌then◌else◌};
 ghost use Rattle.ft_base.specs.declared.numbers.HostNo.{HostNo as Numbered};
 ghost use Rattle.ft_base.specs.declared.views.Style.{Style as AnyStyle};
 ghost use Rattle.group_model.specs.declared.events.Event.TheVariants as events;
 ghost use Rattle.group_model.specs.Agreeing.{IsBrought, IsShortAsked};
 ghost use Rattle.group_model.specs.Openings.{opening_host, opens_loaded};
-ghost use Rattle.group_model.specs.Plain.{Common, Host, Group};
+ghost use Rattle.group_model.specs.Plain.{Common, Host, Group, blank};
 ghost use Rattle.group_model.specs.Serving.{calls_behind};
 ghost use Rattle.active_sequencer.specs.Orders.{answer_of};
 ghost use Rattle.active_sequencer.specs.Sequences.{replied_as};
@@ -174,6 +174,21 @@ impl<S: Servant + Drop> GroupHost<S> {
         Ok(GroupHost {
             up: true,
             known: opening_version(is_member),
+            progress: Progress {
+                replica,
+                holdback: Holdback::new(alloc),
+            },
+        })
+    }
+
+    /// A host of a group whose log was opened again: it is up, and knows nothing.
+    pub fn blank(alloc: Global, founding: &Founding<S>) -> Result<GroupHost<S>, NoMemory>
+        ensures { IfOk result (λ it. it ≡ opening_picture (S.kind founding.now.opening) (S.state founding.now.opening) (blank true)) }
+    {
+        let replica = opening_replica(alloc, &founding.opening, false)?;
+        Ok(GroupHost {
+            up: true,
+            known: Version(0),
             progress: Progress {
                 replica,
                 holdback: Holdback::new(alloc),

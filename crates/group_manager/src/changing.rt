@@ -4,7 +4,7 @@ ghost use Rattle.ft_base.specs.Members.{is_member, AreDifferent};
 ghost use Rattle.ft_base.specs.declared.limits.TheConstants.{HOST_LIMIT, VIEW_LIMIT};
 ghost use Rattle.ft_base.specs.declared.views.TheConstants.{MEMBER_LIMIT};
 ghost use Rattle.message_log.specs.Picture.{IsLogged};
-ghost use Rattle.group_model.specs.Changes.{change_rows, first_fault, host_of_change, joins, next_view};
+ghost use Rattle.group_model.specs.Changes.{NamesHosts, change_rows, first_fault, host_of_change, joins, next_view};
 ghost use Rattle.group_manager.specs.Managing.{changed_as};
 
 use crate::members::{members_then, primary_then};
@@ -39,7 +39,7 @@ pub fn changed(view: &View, style: Style, change: &Change) -> Result<View, Manag
     ensures may { IfOk result (λ next. first_fault (change_rows style view.now change.now) ≡ None) }
     ensures next { IfOk result (λ next. next ≡ next_view style view.now change.now) }
     ensures numbered { IfOk result (λ next. next.version.0 ≡ view.now.version.0 + 1) }
-    ensures logged { IfOk result (λ next. AllByRecursion (λ host. host < HOST_LIMIT) view.now.members → (host_of_change change.now).0 < HOST_LIMIT → IsLogged next) }
+    ensures logged { IfOk result (λ next. AllByRecursion (λ host. host < HOST_LIMIT) view.now.members → NamesHosts change.now → IsLogged next) }
     ensures refused { IfErr result (λ fault. first_fault (change_rows style view.now change.now) ≡ Some fault) }
 {
     views_join();

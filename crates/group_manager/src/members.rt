@@ -3,9 +3,10 @@ ghost use Rattle.std.specs.Prelude.{◌≡◌, ◌∷◌, ◌++◌, [], ◌<◌,
 ghost use Rattle.ft_base.specs.Members.{is_member, AreDifferent};
 ghost use Rattle.ft_base.specs.declared.views.TheConstants.{MEMBER_LIMIT};
 ghost use Rattle.group_model.specs.Changes.{host_of_change, joins, kept_or_first, leads, members_then, primary_then};
+ghost use Rattle.group_model.specs.Spares.{with_spare, with_spares};
 ghost use Rattle.group_model.specs.Views.{without};
 
-use ft_base::{HostNo, Members, Style};
+use ft_base::{HostNo, MEMBER_LIMIT, Members, Style};
 use group_model::Change;
 
 /// The members but this one.
@@ -35,6 +36,28 @@ fn joined(host: HostNo, members: &Members) -> Members
     joined
 }
 
+/// A spare comes as the last, unless it is a member or there is no room.
+fn come(members: &mut Members, spare: HostNo)
+    ensures { members.new ≡ with_spare members.old spare.0 }
+{
+    if members.has(spare) || members.len() >= MEMBER_LIMIT {
+        return;
+    }
+    members.join(spare);
+}
+
+/// The members, and each of the spares in order that may come, but the host that they replace.
+fn with_spares(host: HostNo, spares: &Members, mut members: Members) -> Members
+    ensures { result ≡ with_spares host.0 spares.now members }
+{
+    for spare in spares.hosts() {
+        if *spare != host.0 {
+            come(&mut members, HostNo(*spare));
+        }
+    }
+    members
+}
+
 /// The members after a change.
 pub(crate) fn members_then(change: &Change, members: &Members) -> Members
     requires different { AreDifferent members.now }
@@ -42,12 +65,13 @@ pub(crate) fn members_then(change: &Change, members: &Members) -> Members
     requires room { joins change.now ≡ true → length members.now < MEMBER_LIMIT }
     ensures { result ≡ members_then change.now members.now }
 {
-    match *change {
-        Change::Report(host) => without(host, members),
-        Change::Remove(host) => without(host, members),
-        Change::Add(host) => joined(host, members),
-        Change::Create { host, .. } => joined(host, members),
+    match change {
+        Change::Report(host) => without(*host, members),
+        Change::Remove(host) => without(*host, members),
+        Change::Add(host) => joined(*host, members),
+        Change::Create { host, .. } => joined(*host, members),
         Change::Primary(_) => members.copy(),
+        Change::Replace { host, spares } => with_spares(*host, spares, without(*host, members)),
     }
 }
 
@@ -79,11 +103,12 @@ pub(crate) fn primary_then(
     if !style.is_passive() {
         return None;
     }
-    match *change {
-        Change::Primary(host) => Some(host),
+    match change {
+        Change::Primary(host) => Some(*host),
         Change::Report(_) => kept_or_first(primary, members),
         Change::Remove(_) => kept_or_first(primary, members),
         Change::Add(_) => kept_or_first(primary, members),
         Change::Create { .. } => kept_or_first(primary, members),
+        Change::Replace { .. } => kept_or_first(primary, members),
     }
 }

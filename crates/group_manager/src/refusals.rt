@@ -11,12 +11,13 @@ use group_model::{Change, ManageFault};
 fn host_of_change(change: &Change) -> HostNo
     ensures { result ≡ host_of_change change.now }
 {
-    match *change {
-        Change::Report(host) => host,
-        Change::Remove(host) => host,
-        Change::Add(host) => host,
-        Change::Create { host, .. } => host,
-        Change::Primary(host) => host,
+    match change {
+        Change::Report(host) => *host,
+        Change::Remove(host) => *host,
+        Change::Add(host) => *host,
+        Change::Create { host, .. } => *host,
+        Change::Primary(host) => *host,
+        Change::Replace { host, .. } => *host,
     }
 }
 
@@ -25,7 +26,8 @@ pub(crate) fn joins(change: &Change) -> bool
 {
     match change {
         Change::Add(_) | Change::Create { .. } => true,
-        Change::Report(_) | Change::Remove(_) | Change::Primary(_) => false,
+        Change::Report(_) | Change::Remove(_) | Change::Primary(_) | Change::Replace { .. } =>
+            false,
     }
 }
 
@@ -34,7 +36,11 @@ pub(crate) fn leads(change: &Change) -> bool
 {
     match change {
         Change::Primary(_) => true,
-        Change::Report(_) | Change::Remove(_) | Change::Add(_) | Change::Create { .. } => false,
+        Change::Report(_)
+        | Change::Remove(_)
+        | Change::Add(_)
+        | Change::Create { .. }
+        | Change::Replace { .. } => false,
     }
 }
 
@@ -43,7 +49,11 @@ fn is_unlisted(change: &Change) -> bool
 {
     match change {
         Change::Create { listed, .. } => !*listed,
-        Change::Report(_) | Change::Remove(_) | Change::Add(_) | Change::Primary(_) => false,
+        Change::Report(_)
+        | Change::Remove(_)
+        | Change::Add(_)
+        | Change::Primary(_)
+        | Change::Replace { .. } => false,
     }
 }
 
@@ -52,7 +62,11 @@ fn is_unmade(change: &Change) -> bool
 {
     match change {
         Change::Create { made, .. } => !*made,
-        Change::Report(_) | Change::Remove(_) | Change::Add(_) | Change::Primary(_) => false,
+        Change::Report(_)
+        | Change::Remove(_)
+        | Change::Add(_)
+        | Change::Primary(_)
+        | Change::Replace { .. } => false,
     }
 }
 

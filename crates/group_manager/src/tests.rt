@@ -184,6 +184,61 @@ fn changes(rt: HostRuntime) {
     }
 }
 
+// A style, a view, the host that is replaced, the spares, and the next view.
+type Replaced = (Style, Seen, u8, &'static [u8], Seen);
+
+// No spare, one, and three; a member, the host itself, and one that finds no room.
+const REPLACED: [Replaced; 8] = [
+    (Style::Cold, PASSIVE, 4, &[], (8, &[5, 6], Some(5))),
+    (Style::Warm, PASSIVE, 5, &[9], (8, &[4, 6, 9], Some(4))),
+    (Style::Cold, (7, &[4], Some(4)), 4, &[4], (8, &[], None)),
+    (
+        Style::Warm,
+        (7, &[4], Some(4)),
+        4,
+        &[4, 9, 8],
+        (8, &[9, 8], Some(9)),
+    ),
+    (Style::Active, ACTIVE, 4, &[], (8, &[5, 6], None)),
+    (Style::Active, ACTIVE, 5, &[9], (8, &[4, 6, 9], None)),
+    (Style::Active, ACTIVE, 4, &[5, 4, 9], (8, &[5, 6, 9], None)),
+    (
+        Style::Active,
+        (7, ALL, None),
+        0,
+        &[20, 21, 22],
+        (8, REST, None),
+    ),
+];
+
+const ACTIVE: Seen = (7, &[4, 5, 6], None);
+
+const REST: &[u8] = &[1, 2, 3, 4, 5, 6, 7, 8, 9, 10, 11, 12, 13, 14, 15, 20];
+
+/// The host is replaced by these spares.
+fn replacing(host: HostNo, hosts: &[u8]) -> Change {
+    let mut spares = Members::new();
+    for spare in hosts {
+        join_new(&mut spares, HostNo(*spare));
+    }
+    Change::Replace { host, spares }
+}
+
+#[test]
+fn spares_replace_a_host(rt: HostRuntime) {
+    for (style, seen, host, spares, next) in &REPLACED {
+        let made = changed(&view_of(seen), *style, &replacing(HostNo(*host), spares));
+        assert!(rt;
+            matches!(made, Ok(view) if is_seen(&view, next)),
+            "{host} {spares:?}"
+        );
+    }
+    let none = changed(&view_of(&LAST), Style::Cold, &replacing(OTHER, &[1]));
+    assert!(rt; matches!(none, Err(ManageFault::MemberNotFound(OTHER))));
+    let full = changed(&view_of(&LAST), Style::Cold, &replacing(H, &[1]));
+    assert!(rt; matches!(full, Err(ManageFault::ViewsFull(65_536))));
+}
+
 fn type_id(alloc: Global) -> Result<Name, NoMemory> {
     match Name::of(alloc, b"IDL:ftc/Store:1.0") {
         Ok(name) => Ok(name),

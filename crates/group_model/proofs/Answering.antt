@@ -1,5 +1,5 @@
 -- A request is answered in the form that its operation gives; and a host that stops is told by its answer.
-use Rattle.std.proofs.Common.{◌≡◌, ℕ, zero, suc, ◌<◌, ◌≤◌, ◌&&◌, ◌||◌, max, Bool, true, false, List, [], ◌∷◌, ◌++◌, length, Option, Some, None, Result, Ok, Err, refl, sym, subst, arith}
+use Rattle.std.proofs.Common.{◌≡◌, ℕ, zero, suc, ◌<◌, ◌&&◌, ◌||◌, max, Bool, true, false, List, [], ◌∷◌, ◌++◌, length, Option, Some, None, Result, Ok, Err, refl, sym, subst, arith}
 use Rattle.std.specs.Prelude.{nat_lt, nat_le, nat_eq, slice_get}
 use Rattle.std.proofs.lemmas.Bool.Decides.{nat_tests}
 use Rattle.std.proofs.lemmas.Slice.Eq.{bytes_eq-Decides}
@@ -27,7 +27,7 @@ use Rattle.group_model.specs.declared.refusals.Refusal.{Refusal}
 use Rattle.group_model.specs.Plain.{Common, Host, Group, with_ran, caught_up, put}
 use Rattle.group_model.specs.Turns.{Turn, unchanged}
 use Rattle.group_model.specs.Asking.{asked_version, signature_asked}
-use Rattle.group_model.specs.Views.{newest}
+use Rattle.group_model.specs.Views.{AreKept, StillHas, newest}
 use Rattle.group_model.specs.Decisions.{refused_by_view, request_with, args_for, request_named, known_then, looks_up, request_in}
 use Rattle.ft_base.specs.Admissions.{admission, by_key, by_room, against_held, against_entry, says_same}
 use Rattle.ft_base.specs.declared.admissions.Admission.{Admission}
@@ -38,7 +38,8 @@ use Rattle.group_model.specs.Agreeing.{Agrees, IsSound, IsSoundCommon, IsSoundHo
 use Rattle.group_model.specs.Answering.{IsAnswered, IsReplied, IsToldBy}
 use Rattle.group_model.proofs.Choosing.{either_so}
 use Rattle.group_model.proofs.Growing.{either}
-use Rattle.group_model.proofs.Knowing.{ErrIs, IsToldAt, request_is, if_known}
+use Rattle.group_model.proofs.Keeping.{knows_then, known_has}
+use Rattle.group_model.proofs.Knowing.{ErrIs, IsToldAt, request_is}
 use Rattle.group_model.proofs.Reading.{CanonicalForms, OkIs, Runs, ok_so, requests_run, unless_ok}
 use Rattle.group_model.proofs.Sending.{got_pushed}
 use Rattle.group_model.proofs.Viewing.{or_parts}
@@ -120,18 +121,18 @@ known_some newest known (Some asked) some =
     either_so (λ (n : ℕ). 0 < n) (nat_eq known 0 || nat_lt known asked.0) newest known (λ looks. some)
     (λ knows. knows_some known (or_parts (nat_eq known 0) (nat_lt known asked.0) knows).0)
 
-told_answered : (m : Machine) (c : Common) (op : Option (List ℕ)) (known : ℕ) (answer : Answer) → 0 < known → known ≤ newest c → IsToldAt known answer →
+told_answered : (m : Machine) (c : Common) (op : Option (List ℕ)) (known : ℕ) (answer : Answer) → StillHas c known → IsToldAt known answer →
     IsAnswered m c op answer
-told_answered m c op known (Done outcome) some few told = absurd told
-told_answered m c op known (System fault) some few told = told
-told_answered m c op known (Forward version) some few told = (omega (arith, some, told), omega (arith, few, told))
-told_answered m c op known (ForwardPerm version) some few told = (omega (arith, some, told), omega (arith, few, told))
+told_answered m c op known (Done outcome) has told = absurd told
+told_answered m c op known (System fault) has told = told
+told_answered m c op known (Forward version) has told = (omega (arith, has.0, told), omega (arith, has.1, told))
+told_answered m c op known (ForwardPerm version) has told = (omega (arith, has.0, told), omega (arith, has.1, told))
 
-refused_answered : (m : Machine) (c : Common) (op : Option (List ℕ)) (host known : ℕ) (asked : Asked) → 0 < known → known ≤ newest c →
+refused_answered : (m : Machine) (c : Common) (op : Option (List ℕ)) (host known : ℕ) (asked : Asked) → AreKept c.first_kept c.views → StillHas c known →
     ErrIs (λ x. IsAnswered m c op x.answer) (request_in m c host known asked)
-refused_answered m c op host known asked some few =
+refused_answered m c op host known asked kept has =
     request_is (λ x. IsAnswered m c op x.answer) m c host known asked
-    (λ d a e told. told_answered m c op known a some few told) (λ d a e told. told_answered m c op (newest c) a (omega (arith, some, few)) (omega arith) told)
+    (λ d a e told. told_answered m c op known a has told) (λ d a e told. told_answered m c op (newest c) a (kept.last, omega arith) told)
 
 -- ---- a turn
 
@@ -200,10 +201,10 @@ request_answers laws m c h host clock asked stop fails stays gives s x runs =
     let known = known_then (newest c) h.known asked.version in
     let h' : Host = record h { known = known } in
     let some = known_some (newest c) h.known asked.version s.views.some in
-    let few = if_known (looks_up h.known asked.version) h.known (newest c) x.known in
+    let may = knows_then c (looks_up h.known asked.version) h.known s.kept x.known in
     unless_bad_answers m asked.op asked.bad_context c h (served_or m c h' host.0 clock stop fails (request_in m c host.0 known asked))
     (served_or_answers laws m c h' host.0 clock asked.op stop fails (request_in m c host.0 known asked)
-    (refused_answered m c asked.op host.0 known asked some few.1)
+    (refused_answered m c asked.op host.0 known asked s.kept (known_has c known some may))
     (λ q is. record {
       stays = stays;
       gives = gives;

@@ -33,6 +33,7 @@ use Rattle.group_model.specs.Laws.{Grows}
 
 pub grows_itself : (c : Common) → Grows c c
 grows_itself c = record {
+  id = refl;
   style = refl;
   kind = refl;
   opening = refl;
@@ -40,12 +41,14 @@ grows_itself c = record {
   journal = sym (append-nil c.journal);
   newer = [];
   views = sym (append-nil c.views);
+  first_kept = refl;
   time = omega arith;
   ran = omega arith;
 }
 
 pub grows_on : (a b c : Common) → Grows a b → Grows b c → Grows a c
 grows_on a b c x y = record {
+  id = y.id ∙ x.id;
   style = y.style ∙ x.style;
   kind = y.kind ∙ x.kind;
   opening = y.opening ∙ x.opening;
@@ -53,6 +56,7 @@ grows_on a b c x y = record {
   journal = y.journal ∙ ap (λ (es : List Entry). es ++ y.more) x.journal ∙ append_assoc a.journal x.more y.more;
   newer = x.newer ++ y.newer;
   views = y.views ∙ ap (λ (vs : List View). vs ++ y.newer) x.views ∙ append_assoc a.views x.newer y.newer;
+  first_kept = y.first_kept ∙ x.first_kept;
   time = omega (arith, x.time, y.time);
   ran = omega (arith, x.ran, y.ran);
 }
@@ -63,8 +67,9 @@ le_max_left m n = omega arith
 le_max_right : (m n : ℕ) → n ≤ max m n
 le_max_right m n = omega arith
 
-with_ran_grows : (n : ℕ) (c : Common) → Grows c (with_ran n c)
+pub with_ran_grows : (n : ℕ) (c : Common) → Grows c (with_ran n c)
 with_ran_grows n c = record {
+  id = refl;
   style = refl;
   kind = refl;
   opening = refl;
@@ -72,12 +77,14 @@ with_ran_grows n c = record {
   journal = sym (append-nil c.journal);
   newer = [];
   views = sym (append-nil c.views);
+  first_kept = refl;
   time = omega arith;
   ran = le_max_left c.ran n;
 }
 
 joined_grows : (c : Common) (now : ℕ) (q : Request) → c.time ≤ now → Grows c (joined c now q)
 joined_grows c now q later = record {
+  id = refl;
   style = refl;
   kind = refl;
   opening = refl;
@@ -85,6 +92,7 @@ joined_grows c now q later = record {
   journal = refl;
   newer = [];
   views = sym (append-nil c.views);
+  first_kept = refl;
   time = later;
   ran = omega arith;
 }
@@ -139,6 +147,7 @@ request_grows m c h host clock asked stop fails =
 
 marked_grows : (c : Common) (clock : ℕ) → Grows c (marked c clock)
 marked_grows c clock = record {
+  id = refl;
   style = refl;
   kind = refl;
   opening = refl;
@@ -146,6 +155,7 @@ marked_grows c clock = record {
   journal = sym (append-nil c.journal);
   newer = [];
   views = sym (append-nil c.views);
+  first_kept = refl;
   time = le_max_left c.time clock;
   ran = omega arith;
 }
@@ -162,6 +172,7 @@ checkpoint_grows m c h host clock fails =
 changed_grows : (c : Common) (h : Host) (old new : View) (fails : Bool) → TurnGrows c (changed c h old new fails)
 changed_grows c h old new true = grows_itself c
 changed_grows c h old new false = record {
+  id = refl;
   style = refl;
   kind = refl;
   opening = refl;
@@ -169,6 +180,7 @@ changed_grows c h old new false = record {
   journal = sym (append-nil c.journal);
   newer = new ∷ [];
   views = refl;
+  first_kept = refl;
   time = omega arith;
   ran = omega arith;
 }

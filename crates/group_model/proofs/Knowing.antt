@@ -221,6 +221,6 @@ pub knowledge_never_falls : (m : Machine) (g : Group) (e : Event) (fails : Bool)
 knowledge_never_falls m g e fails i sound stays =
     let at = host_of e in
     let t = turn m g.common (g.hosts at) e fails in
-    let on : (g.hosts at).known ≤ t.host.known = turn_knows m g.common (g.hosts at) e fails (sound.hosts at).known stays in
+    let on : (g.hosts at).known ≤ t.host.known = turn_knows m g.common (g.hosts at) e fails (sound.hosts at).known.0 stays in
     either_so (λ (h : Host). (g.hosts i).known ≤ h.known) (nat_eq i at) t.host (g.hosts i)
     (λ same. subst (λ (j : ℕ). (g.hosts j).known ≤ t.host.known) (sym (eqb-true i at same)) on) (λ other. omega arith)

@@ -34,7 +34,7 @@ deltas_stay m c after x n k h l =
 
 brought_stays : (m : Machine) (g after : Group) (e : Event) → IsSound m g → Grows g.common after.common → Lasts e → IsBrought m g e → IsBrought m after e
 brought_stays m g after (events.Request host clock asked stop) sound x lasts b = b
-brought_stays m g after (events.View host sent) sound x lasts b = (b.0, omega (arith, b.1, views_grow g.common after.common x))
+brought_stays m g after (events.View host sent) sound x lasts b = (omega (arith, b.0, x.first_kept), omega (arith, b.1, views_grow g.common after.common x))
 brought_stays m g after (events.State host n state) sound x lasts b = (
   x.style ∙ b.0,
   omega (arith, b.1, x.ran),
@@ -51,7 +51,7 @@ brought_stays m g after (events.Crash host) sound x lasts b = tt
 brought_stays m g after (events.Restart host) sound x lasts b = tt
 brought_stays m g after (events.Checkpoint host clock) sound x lasts b = absurd lasts
 brought_stays m g after (events.SendUpdate host) sound x lasts b = absurd lasts
-brought_stays m g after (events.Manage change) sound x lasts b = tt
+brought_stays m g after (events.Manage change) sound x lasts b = b
 
 pub agreement_lasts : (m : Machine) (g after : Group) (e : Event) → IsSound m g → Grows g.common after.common → Lasts e → Agrees m e g → Agrees m e after
 agreement_lasts m g after e sound x lasts agrees =

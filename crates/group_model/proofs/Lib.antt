@@ -3,6 +3,7 @@ pub mod Growing
 pub mod Refusing
 pub mod Lasting
 pub mod Knowing
+pub mod Keeping
 pub mod Reading
 pub mod Joining
 pub mod Placing
@@ -12,5 +13,11 @@ pub mod Turning
 pub mod Counting
 pub mod Leaving
 pub mod Sending
+pub mod Told
 pub mod Answering
+pub mod Reopening
+pub mod Stepping
+pub mod Appending
+pub mod Amounts
+pub mod Taking
 mod Examples

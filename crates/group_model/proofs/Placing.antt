@@ -1,14 +1,14 @@
 -- What a sound group says of a host stays so in each of its turns.
-use Rattle.std.proofs.Common.{◌≡◌, ℕ, zero, suc, ◌+◌, ◌<◌, ◌≤◌, max, Bool, true, false, List, [], ◌∷◌, ◌++◌, length, refl, sym, subst, ap, ◌∙◌, eqb-true, leb-true, arith}
+use Rattle.std.proofs.Common.{◌≡◌, ℕ, zero, suc, ◌+◌, ◌<◌, ◌≤◌, ◌⊎◌, inl, max, Bool, true, false, List, [], ◌∷◌, ◌++◌, length, refl, sym, subst, ap, ◌∙◌, eqb-true, leb-true, arith}
 use Rattle.std.specs.Prelude.{nat_eq, nat_le, ◌||◌}
 use Rattle.std.specs.List.{AllByRecursion}
 use Rattle.std.proofs.lemmas.Bool.{and_parts}
-use Rattle.group_model.specs.Plain.{Common, Host, Place, blank, loaded_at, from, with_number, is_held, past_held, reach, goes_on, start_of, moved_to, caught_up, with_ran}
+use Rattle.group_model.specs.Plain.{Common, Host, Place, blank, loaded_at, from, with_number, is_held, past_held, reach, goes_on, start_of, moved_to, caught_up, caught_up_to, with_ran}
 use Rattle.group_model.specs.Transfers.{rebased, holding}
 use Rattle.ft_base.specs.Views.{is_passive}
-use Rattle.group_model.specs.Views.{newest}
+use Rattle.group_model.specs.Views.{MayKnow, newest}
 use Rattle.group_model.specs.Agreeing.{IsSoundHost, AreNumbers}
-use Rattle.group_model.proofs.Choosing.{either_so}
+use Rattle.group_model.proofs.Choosing.{either_so, not_both}
 
 -- ---- numbers that are held
 
@@ -69,40 +69,44 @@ reach_within xs ran position all le = past_within xs ran position (length xs) al
 
 pub blank_sound : (c : Common) (up : Bool) → IsSoundHost c (blank up)
 blank_sound c up = record {
-  known = omega arith;
+  known = (omega arith, inl refl);
   base = omega arith;
   position = omega arith;
   unloaded = λ u. (refl, refl);
   held = tt;
   passive = λ p. refl;
+  down = λ e. ap blank e;
 }
 
 -- more views and more that has run
-pub host_stays : (c after : Common) (h : Host) → after.style ≡ c.style → newest c ≤ newest after → c.ran ≤ after.ran → IsSoundHost c h → IsSoundHost after h
-host_stays c after h style views ran s = record {
-  known = omega (arith, s.known, views);
+pub host_stays : (c after : Common) (h : Host) → after.style ≡ c.style → after.first_kept ≡ c.first_kept → newest c ≤ newest after → c.ran ≤ after.ran → IsSoundHost c h → IsSoundHost after h
+host_stays c after h style first views ran s = record {
+  known = (omega (arith, s.known.0, views), subst (λ (n : ℕ). (h.known ≡ 0) ⊎ (n ≤ h.known)) (sym first) s.known.1);
   base = s.base;
   position = omega (arith, s.position, ran);
   unloaded = s.unloaded;
   held = in_more h.place.position c.ran after.ran h.holdback ran s.held;
   passive = λ p. s.passive (ap is_passive (sym style) ∙ p);
+  down = s.down;
 }
 
-pub knowing_sound : (c : Common) (h : Host) (known : ℕ) → known ≤ newest c → IsSoundHost c h → IsSoundHost c (record h { known = known })
-knowing_sound c h known le s =
-    record { known = le; base = s.base; position = s.position; unloaded = s.unloaded; held = s.held; passive = s.passive }
+-- only one that is up learns of a view
+pub knowing_sound : (c : Common) (h : Host) (known : ℕ) → h.up ≡ true → MayKnow c known → IsSoundHost c h → IsSoundHost c (record h { known = known })
+knowing_sound c h known up may s =
+    record { known = may; base = s.base; position = s.position; unloaded = s.unloaded; held = s.held; passive = s.passive; down = λ d. absurd (not_both h.up up d) }
 
-pub up_sound : (c : Common) (h : Host) (up : Bool) → IsSoundHost c h → IsSoundHost c (record h { up = up })
-up_sound c h up s =
-    record { known = s.known; base = s.base; position = s.position; unloaded = s.unloaded; held = s.held; passive = s.passive }
+pub up_sound : (c : Common) (h : Host) → IsSoundHost c h → IsSoundHost c (record h { up = true })
+up_sound c h s =
+    record { known = s.known; base = s.base; position = s.position; unloaded = s.unloaded; held = s.held; passive = s.passive; down = λ d. absurd cc }
 
-pub rebased_sound : (c : Common) (h : Host) → IsSoundHost c h → IsSoundHost c (rebased h)
-rebased_sound c h s =
-    record { known = s.known; base = omega arith; position = s.position; unloaded = s.unloaded; held = s.held; passive = s.passive }
+pub rebased_sound : (c : Common) (h : Host) → h.up ≡ true → IsSoundHost c h → IsSoundHost c (rebased h)
+rebased_sound c h up s =
+    record { known = s.known; base = omega arith; position = s.position; unloaded = s.unloaded; held = s.held; passive = s.passive; down = λ d. absurd (not_both h.up up d) }
 
 -- what a host needs to run on to a position
 pub record MayMove (c : Common) (h : Host) (n : ℕ) : Type 0 where
-  pub known : h.known ≤ newest c
+  pub up : h.up ≡ true
+  pub known : MayKnow c h.known
   pub base : h.place.base ≤ n
   pub to : n ≤ c.ran
   pub loaded : h.place.loaded ≡ true
@@ -117,17 +121,20 @@ moved_sound c h n s = record {
   unloaded = λ u. absurd (let both = sym s.loaded ∙ u in cc);
   held = from_in n c.ran h.holdback s.held;
   passive = λ p. ap (from n) (s.passive p);
+  down = λ d. absurd (not_both h.up s.up d);
 }
 
 -- a host that is brought to a position in a passive group
-pub brought_sound : (c : Common) (h : Host) (n : ℕ) → is_passive c.style ≡ true → n ≤ c.ran → IsSoundHost c h → IsSoundHost c (record h { place = loaded_at n })
-brought_sound c h n passive le s = record {
+pub brought_sound : (c : Common) (h : Host) (n : ℕ) → h.up ≡ true → is_passive c.style ≡ true → n ≤ c.ran → IsSoundHost c h →
+    IsSoundHost c (record h { place = loaded_at n })
+brought_sound c h n up passive le s = record {
   known = s.known;
   base = omega arith;
   position = le;
   unloaded = λ u. absurd cc;
   held = subst (AreIn n c.ran) (sym (s.passive passive)) tt;
   passive = s.passive;
+  down = λ d. absurd (not_both h.up up d);
 }
 
 -- ---- catching up
@@ -144,32 +151,49 @@ start_within c place n base mark =
 -- a host that has caught up is sound, and may move on
 pub record HasCaughtUp (c : Common) (h : Host) : Type 0 where
   pub sound : IsSoundHost c h
+  pub up : h.up ≡ true
   pub loaded : h.place.loaded ≡ true
 
-pub caught_up_sound : (c : Common) (h : Host) → AreNumbers c → IsSoundHost c h → HasCaughtUp (with_ran (length c.journal) c) (caught_up c h)
-caught_up_sound c h numbers s =
-    let n = length c.journal in
+-- a host is sound all the way from where its catch-up begins
+pub on_the_way_sound : (c : Common) (h : Host) (n : ℕ) → h.up ≡ true → (start_of c h.place).base ≤ n → IsSoundHost c h → IsSoundHost (with_ran n c) (caught_up_to c h n)
+on_the_way_sound c h n up base s =
     let begun : Host = record h { place = start_of c h.place } in
-    record {
-      sound = moved_sound (with_ran n c) begun n (record {
-        known = s.known;
-        base = start_within c h.place n (omega (arith, s.base, s.position, numbers.ran)) (omega (arith, numbers.mark, numbers.ran));
-        to = omega arith;
-        loaded = start_loaded c h.place;
-        held = below_more c.ran (max c.ran n) h.holdback (omega arith) (below h.place.position c.ran h.holdback s.held);
-        passive = s.passive;
-      });
+    moved_sound (with_ran n c) begun n (record {
+      up = up;
+      known = s.known;
+      base = base;
+      to = omega arith;
       loaded = start_loaded c h.place;
-    }
+      held = below_more c.ran (max c.ran n) h.holdback (omega arith) (below h.place.position c.ran h.holdback s.held);
+      passive = s.passive;
+    })
+
+-- its base is there, or before
+pub start_based : (c : Common) (h : Host) → IsSoundHost c h → (start_of c h.place).base ≤ (start_of c h.place).position
+start_based c h s =
+    either_so (λ (p : Place). p.base ≤ p.position) (goes_on c h.place) h.place (loaded_at c.mark) (λ goes. s.base) (λ loads. omega arith)
+
+-- and within the journal
+pub start_inside : (c : Common) (h : Host) → AreNumbers c → IsSoundHost c h → (start_of c h.place).base ≤ length c.journal
+start_inside c h numbers s =
+    start_within c h.place (length c.journal) (omega (arith, s.base, s.position, numbers.ran)) (omega (arith, numbers.mark, numbers.ran))
+
+pub caught_up_sound : (c : Common) (h : Host) → h.up ≡ true → AreNumbers c → IsSoundHost c h → HasCaughtUp (with_ran (length c.journal) c) (caught_up c h)
+caught_up_sound c h up numbers s = record {
+  sound = on_the_way_sound c h (length c.journal) up (start_inside c h numbers s) s;
+  up = up;
+  loaded = start_loaded c h.place;
+}
 
 -- ---- orders
 
-pub order_sound : (c : Common) (h : Host) (i : ℕ) → (is_passive c.style ≡ true → ⊥) → i < c.ran → h.place.loaded ≡ true → IsSoundHost c h →
+pub order_sound : (c : Common) (h : Host) (i : ℕ) → h.up ≡ true → (is_passive c.style ≡ true → ⊥) → i < c.ran → h.place.loaded ≡ true → IsSoundHost c h →
     IsSoundHost c (moved_to (reach (holding h i).holdback h.place.position) (holding h i))
-order_sound c h i active lt loaded s =
+order_sound c h i up active lt loaded s =
     let held = below_with c.ran i h.holdback (below h.place.position c.ran h.holdback s.held) lt in
     let within = reach_within (with_number i h.holdback) c.ran h.place.position held s.position in
     moved_sound c (holding h i) (reach (holding h i).holdback h.place.position) (record {
+      up = up;
       known = s.known;
       base = omega (arith, s.base, within.0);
       to = within.1;

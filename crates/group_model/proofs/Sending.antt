@@ -26,20 +26,20 @@ use Rattle.group_model.specs.declared.refusals.Refusal.{Refusal}
 use Rattle.group_model.specs.Plain.{Common, Host, Group, reach, with_ran, caught_up, put, state_at, delta_at}
 use Rattle.group_model.specs.Turns.{Turn, unchanged}
 use Rattle.ft_base.specs.Views.{is_passive}
-use Rattle.group_model.specs.Views.{version, host_no, newest, newest_view, is_warm, without, sent_to, to_others}
+use Rattle.group_model.specs.Views.{AreKept, version, host_no, newest, newest_view, is_warm, without, sent_to, to_others}
 use Rattle.group_model.specs.Decisions.{known_then, request_in}
 use Rattle.ft_base.specs.Admissions.{admission}
 use Rattle.ft_base.specs.declared.admissions.Admission.{Admission}
 use Rattle.ft_base.specs.declared.admissions.Admission.TheVariants.{Expired, Same, Other, Full, New}
 use Rattle.group_model.specs.Serving.{joined, accepted, admitted, served_or, unless_bad, on_request}
 use Rattle.group_model.specs.Transfers.{brought_to, ignoring, holding, ordered, taking, marked, checkpoint_written, on_checkpoint, update_taken, on_send_update, on_state, on_update, on_order, on_view}
-use Rattle.group_model.specs.Changes.{changed, changed_or, with_view, next_view, first_fault, change_rows, host_of_change}
+use Rattle.group_model.specs.Changes.{changed, changed_or, with_view, next_view, first_fault, change_rows, host_of_change, NamesHosts}
 use Rattle.group_model.specs.Events.{if_up, turn, turn_of, host_of, after_event}
 use Rattle.group_model.specs.Agreeing.{Agrees, AreViews, IsBrought, IsSound, IsSoundCommon, IsSoundHost}
 use Rattle.group_model.specs.Sending.{brought, brought_to_host, sent_by}
 use Rattle.group_model.proofs.Choosing.{either_so}
 use Rattle.group_model.proofs.Growing.{either}
-use Rattle.group_model.proofs.Sounding.{taking_sound}
+use Rattle.group_model.proofs.Placing.{start_inside}
 use Rattle.group_model.proofs.Viewing.{all_without, newest_there, views_go_on}
 
 -- ---- lists
@@ -159,37 +159,38 @@ written_sends m hosts c h host clock false views le =
 checkpoint_sends : (m : Machine) (hosts : ℕ → Host) (c : Common) (h : Host) (host clock : ℕ) (fails : Bool) → IsSoundCommon m c → IsSoundHost c h →
     Sends m hosts (on_checkpoint m c h host clock fails)
 checkpoint_sends m hosts c h host clock fails s x =
-    written_sends m hosts (with_ran (length c.journal) c) (taking c h) host clock fails s.views (taking_sound c h s.numbers x).sound.position
+    written_sends m hosts (with_ran (length c.journal) c) (taking c h) host clock fails s.views (omega arith)
 
-taken_sends : (m : Machine) (hosts : ℕ → Host) (c : Common) (h : Host) (host : ℕ) → c.style ≡ Warm → AreViews c.style c.views → IsSoundHost c h →
+taken_sends : (m : Machine) (hosts : ℕ → Host) (c : Common) (h : Host) (host : ℕ) → c.style ≡ Warm → AreViews c.style c.views → h.place.base ≤ h.place.position → h.place.position ≤ c.ran →
     Sends m hosts (update_taken m c h host)
-taken_sends m hosts c h host warm views x =
+taken_sends m hosts c h host warm views base_first few =
     let base = h.place.base in
     let n = h.place.position in
-    others_sent m (record { common = c; hosts = hosts }) c host (inners.Update base n (delta_at m c base n)) views (λ to. (warm, x.base, x.position, refl))
+    others_sent m (record { common = c; hosts = hosts }) c host (inners.Update base n (delta_at m c base n)) views (λ to. (warm, base_first, few, refl))
 
 -- ---- changes
 
-changed_sends : (m : Machine) (hosts : ℕ → Host) (c : Common) (h : Host) (change : Change) (fails : Bool) → (host_of_change change).0 < HOST_LIMIT →
-    first_fault (change_rows c.style (newest_view c) change) ≡ None → AreViews c.style c.views →
+changed_sends : (m : Machine) (hosts : ℕ → Host) (c : Common) (h : Host) (change : Change) (fails : Bool) → NamesHosts change →
+    first_fault (change_rows c.style (newest_view c) change) ≡ None → AreViews c.style c.views → AreKept c.first_kept c.views →
     Sends m hosts (changed c h (newest_view c) (next_view c.style (newest_view c) change) fails)
-changed_sends m hosts c h change true lt none views = tt
-changed_sends m hosts c h change false lt none views =
+changed_sends m hosts c h change true lt none views kept = tt
+changed_sends m hosts c h change false lt none views kept =
     let old = newest_view c in
     let new = next_view c.style old change in
     let told : Inner = inners.View new.version in
     let g : Group = record { common = with_view c new; hosts = hosts } in
     let at = (views_go_on c change lt none views).each (length c.views) new (got_pushed c.views new) in
-    let may : MayBeSent m g told = λ to. (omega (arith, at.numbered), omega (arith, at.numbered, length-append c.views (new ∷ []))) in
+    let may : MayBeSent m g told = λ to. (omega (arith, at.numbered, kept.last), omega (arith, at.numbered, length-append c.views (new ∷ []))) in
     let joining = filter (λ n. not (is_member n old.members)) new.members in
     all_append (λ (o : Out). Agrees m (brought o) g) (sent_to old.members told) (sent_to joining told)
     (all_sent m g told old.members (newest_hosts c views) may)
     (all_sent m g told joining (all_filter (λ n. n < HOST_LIMIT) (λ n. not (is_member n old.members)) new.members at.hosts) may)
 
-changed_or_sends : (m : Machine) (hosts : ℕ → Host) (c : Common) (h : Host) (change : Change) (fails : Bool) (r : Option ManageFault) → (host_of_change change).0 < HOST_LIMIT →
-    first_fault (change_rows c.style (newest_view c) change) ≡ r → AreViews c.style c.views → Sends m hosts (changed_or c h change fails r)
-changed_or_sends m hosts c h change fails (Some fault) lt is views = tt
-changed_or_sends m hosts c h change fails None lt is views = changed_sends m hosts c h change fails lt is views
+changed_or_sends : (m : Machine) (hosts : ℕ → Host) (c : Common) (h : Host) (change : Change) (fails : Bool) (r : Option ManageFault) → NamesHosts change →
+    first_fault (change_rows c.style (newest_view c) change) ≡ r → AreViews c.style c.views → AreKept c.first_kept c.views →
+    Sends m hosts (changed_or c h change fails r)
+changed_or_sends m hosts c h change fails (Some fault) lt is views kept = tt
+changed_or_sends m hosts c h change fails None lt is views kept = changed_sends m hosts c h change fails lt is views kept
 
 -- ---- what sends nothing
 
@@ -245,10 +246,10 @@ turn_sends m hosts g (events.SendUpdate host) fails s a =
     let c = g.common in
     if_up_sends m hosts c (g.hosts host.0) (on_send_update m c (g.hosts host.0) host.0)
     (taken_sends m hosts (with_ran (length c.journal) c) (taking c (g.hosts host.0)) host.0 a.brought.0 s.common.views
-    (taking_sound c (g.hosts host.0) s.common.numbers (s.hosts host.0)).sound)
+    (start_inside c (g.hosts host.0) s.common.numbers (s.hosts host.0)) (omega arith))
 turn_sends m hosts g (events.Manage change) fails s a =
-    changed_or_sends m hosts g.common (g.hosts (host_of_change change).0) change fails (first_fault (change_rows g.common.style (newest_view g.common) change)) a.host refl
-    s.common.views
+    changed_or_sends m hosts g.common (g.hosts (host_of_change change).0) change fails (first_fault (change_rows g.common.style (newest_view g.common) change)) (a.host, a.brought) refl
+    s.common.views s.common.kept
 turn_sends m hosts g (events.Crash host) fails s a = tt
 turn_sends m hosts g (events.Restart host) fails s a = tt
 

@@ -1,7 +1,7 @@
 -- The next view of a sound group is a view of its style, and stands at its version.
 use Rattle.std.proofs.Common.{◌≡◌, ℕ, zero, suc, ◌+◌, ◌-◌, ◌<◌, ◌≤◌, ◌&&◌, ◌||◌, Bool, true, false, List, [], ◌∷◌, ◌++◌, length, length-append, Option, Some, None, refl, sym, subst, ap, if◌then◌else◌, eqb-true, leb-false, arith}
 use Rattle.std.specs.Prelude.{nat_eq, nat_le, not, slice_get, slice_index_or}
-use Rattle.std.specs.List.{AllByRecursion}
+use Rattle.std.specs.List.{AllByRecursion, fold}
 use Rattle.ft_base.specs.Members.{is_member, AreDifferent}
 use Rattle.ft_base.specs.Views.{IsPrimary, IsPassivePrimary}
 use Rattle.ft_base.specs.declared.limits.TheConstants.{HOST_LIMIT, VIEW_LIMIT}
@@ -11,13 +11,14 @@ use Rattle.ft_base.specs.declared.views.Style.{Style}
 use Rattle.ft_base.specs.declared.views.Style.TheVariants.{Cold, Warm, Active}
 use Rattle.ft_base.specs.declared.views.View.{View}
 use Rattle.group_model.specs.declared.changes.Change.{Change}
-use Rattle.group_model.specs.declared.changes.Change.TheVariants.{Report, Remove, Add, Create, Primary}
+use Rattle.group_model.specs.declared.changes.Change.TheVariants.{Report, Remove, Add, Create, Primary, Replace}
 use Rattle.group_model.specs.declared.changes.ManageFault.{ManageFault}
 use Rattle.group_model.specs.Plain.{Common}
 use Rattle.group_model.specs.Views.{no_view, view_at, newest_view, without}
 use Rattle.ft_base.specs.Members.{first_of}
-use Rattle.group_model.specs.Changes.{ChangeRow, first_fault, change_rows, host_of_change, joins, leaves, leads, members_then, kept_or_first, primary_then, next_view}
+use Rattle.group_model.specs.Changes.{ChangeRow, NamesHosts, first_fault, change_rows, host_of_change, spares_of, joins, leaves, leads, before_spares, members_then, kept_or_first, primary_then, next_view}
 use Rattle.group_model.specs.Agreeing.{IsViewAt, AreViews}
+use Rattle.group_model.specs.Spares.{AreMembers, SparesAreHosts, SparesJoin, with_spare}
 use Rattle.group_model.proofs.Choosing.{either_so}
 
 -- ---- no row stands
@@ -37,20 +38,20 @@ none_stands (r ∷ rows) e =
     (both.0, none_stands rows both.1)
 
 -- what the rows leave
-record MayChange (style : Style) (view : View) (change : Change) : Type 0 where
+pub record MayChange (style : Style) (view : View) (change : Change) : Type 0 where
   pub fresh : (joins change && is_member (host_of_change change).0 view.members) ≡ false
   pub room : (joins change && nat_le MEMBER_LIMIT (length view.members)) ≡ false
   pub there : (not (joins change) && not (is_member (host_of_change change).0 view.members)) ≡ false
   pub more : nat_le VIEW_LIMIT view.version.0 ≡ false
 
-may_change : (style : Style) (view : View) (change : Change) → first_fault (change_rows style view change) ≡ None → MayChange style view change
+pub may_change : (style : Style) (view : View) (change : Change) → first_fault (change_rows style view change) ≡ None → MayChange style view change
 may_change style view change e =
     let rows = none_stands (change_rows style view change) e in
     record { fresh = rows.1.0; room = rows.1.1.0; there = rows.1.1.1.1.1.0; more = rows.1.1.1.1.1.1.1.0 }
 
 -- ---- members
 
-if_not : (b c : Bool) → b ≡ true → (b && c) ≡ false → c ≡ false
+pub if_not : (b c : Bool) → b ≡ true → (b && c) ≡ false → c ≡ false
 if_not true c e f = f
 if_not false c e f = absurd cc
 
@@ -93,7 +94,7 @@ different_without host (x ∷ xs) all =
     either_so AreDifferent (not (nat_eq x host)) (x ∷ without host xs) (without host xs)
     (λ stays. (member_without x host xs all.0, different_without host xs all.1)) (λ leaves. different_without host xs all.1)
 
-fewer_without : (host : ℕ) (xs : List ℕ) → length (without host xs) ≤ length xs
+pub fewer_without : (host : ℕ) (xs : List ℕ) → length (without host xs) ≤ length xs
 fewer_without host [] = omega arith
 fewer_without host (x ∷ xs) =
     let less = fewer_without host xs in
@@ -110,15 +111,41 @@ all_push : (P : ℕ → Type 0) (xs : List ℕ) (x : ℕ) → AllByRecursion P x
 all_push P [] x all p = (p, tt)
 all_push P (y ∷ xs) x all p = (all.0, all_push P xs x all.1 p)
 
--- different members, few, each a host that there can be
-record AreMembers (members : List ℕ) : Type 0 where
-  pub few : length members ≤ MEMBER_LIMIT
-  pub different : AreDifferent members
-  pub hosts : AllByRecursion (λ host. host < HOST_LIMIT) members
+-- each a host that there can be
+abbrev AreHosts : List ℕ → Type 0
+AreHosts hosts = AllByRecursion (λ host. host < HOST_LIMIT) hosts
 
-members_sound : (style : Style) (view : View) (change : Change) → (host_of_change change).0 < HOST_LIMIT → MayChange style view change → AreMembers view.members →
-    AreMembers (members_then change view.members)
-members_sound style view change lt may old =
+spare_is_host : (members : List ℕ) (spare : ℕ) → spare < HOST_LIMIT → AreHosts members → AreHosts (with_spare members spare)
+spare_is_host members spare lt are =
+    either_so AreHosts (is_member spare members || nat_le MEMBER_LIMIT (length members)) members (members ++ spare ∷ []) (λ stays. are)
+    (λ comes. all_push (λ n. n < HOST_LIMIT) members spare are lt)
+
+each_is_host : (spares members : List ℕ) → AreHosts spares → AreHosts members → AreHosts (fold with_spare members spares)
+each_is_host [] members all are = are
+each_is_host (spare ∷ spares) members all are = each_is_host spares (with_spare members spare) all.1 (spare_is_host members spare all.0 are)
+
+pub spares_are_hosts : SparesAreHosts
+spares_are_hosts host spares members all are = each_is_host (without host spares) members (all_without (λ n. n < HOST_LIMIT) host spares all) are
+
+spare_joins : (members : List ℕ) (spare : ℕ) → spare < HOST_LIMIT → AreMembers members → AreMembers (with_spare members spare)
+spare_joins members spare lt are =
+    either_so AreMembers (is_member spare members || nat_le MEMBER_LIMIT (length members)) members (members ++ spare ∷ []) (λ stays. are)
+    (λ comes. let both = or_parts (is_member spare members) (nat_le MEMBER_LIMIT (length members)) comes in record {
+      few = omega (arith, length-append members (spare ∷ []), leb-false MEMBER_LIMIT (length members) both.1);
+      different = different_push members spare are.different both.0;
+      hosts = all_push (λ n. n < HOST_LIMIT) members spare are.hosts lt;
+    })
+
+each_joins : (spares members : List ℕ) → AreHosts spares → AreMembers members → AreMembers (fold with_spare members spares)
+each_joins [] members all are = are
+each_joins (spare ∷ spares) members all are = each_joins spares (with_spare members spare) all.1 (spare_joins members spare all.0 are)
+
+pub spares_join : SparesJoin
+spares_join host spares members all are = each_joins (without host spares) members (all_without (λ n. n < HOST_LIMIT) host spares all) are
+
+first_sound : (style : Style) (view : View) (change : Change) → (host_of_change change).0 < HOST_LIMIT → MayChange style view change → AreMembers view.members →
+    AreMembers (before_spares change view.members)
+first_sound style view change lt may old =
     let host = (host_of_change change).0 in
     either_so AreMembers (joins change) (view.members ++ host ∷ []) (if leaves change then without host view.members else view.members)
     (λ joining. record {
@@ -134,9 +161,14 @@ members_sound style view change lt may old =
     })
     (λ same. old))
 
+members_sound : (style : Style) (view : View) (change : Change) → NamesHosts change → MayChange style view change → AreMembers view.members →
+    AreMembers (members_then change view.members)
+members_sound style view change names may old =
+    spares_join (host_of_change change).0 (spares_of change) (before_spares change view.members) names.1 (first_sound style view change names.0 may old)
+
 -- ---- the primary
 
-nat_same : (n : ℕ) → nat_eq n n ≡ true
+pub nat_same : (n : ℕ) → nat_eq n n ≡ true
 nat_same n = grind arith
 
 first_primary : (members : List ℕ) → IsPassivePrimary members (first_of members)
@@ -160,6 +192,7 @@ leading style view (Remove host) leads may = absurd cc
 leading style view (Add host) leads may = absurd cc
 leading style view (Create host listed made) leads may = absurd cc
 leading style view (Primary host) leads may = not_not (is_member host.0 view.members) may.there
+leading style view (Replace host spares) leads may = absurd cc
 
 passive_primary : (style : Style) (view : View) (change : Change) → MayChange style view change →
     IsPassivePrimary (members_then change view.members) (if leads change then Some (host_of_change change) else kept_or_first view.primary (members_then change view.members))
@@ -198,15 +231,15 @@ each_push P start (v ∷ views) new old p (suc k) view is =
     subst (λ (n : ℕ). P n view) (moved k)
     (each_push P (start + 1) views new (λ j w e. subst (λ (n : ℕ). P n w) (sym (moved j)) (old (suc j) w e)) (subst (λ (n : ℕ). P n new) (sym (moved (length views))) p) k view is)
 
-pub views_go_on : (c : Common) (change : Change) → (host_of_change change).0 < HOST_LIMIT → first_fault (change_rows c.style (newest_view c) change) ≡ None →
+pub views_go_on : (c : Common) (change : Change) → NamesHosts change → first_fault (change_rows c.style (newest_view c) change) ≡ None →
     AreViews c.style c.views → AreViews c.style (c.views ++ next_view c.style (newest_view c) change ∷ [])
-views_go_on c change lt none sound =
+views_go_on c change names none sound =
     let old = newest_view c in
     let new = next_view c.style old change in
     let may = may_change c.style old change none in
     let last = sound.each (length c.views - 1) old (newest_there c.views sound.some) in
     let number : old.version.0 ≡ length c.views = omega (arith, last.numbered, sound.some) in
-    let members = members_sound c.style old change lt may (record { few = last.is.few; different = last.is.different; hosts = last.hosts }) in
+    let members = members_sound c.style old change names may (record { few = last.is.few; different = last.is.different; hosts = last.hosts }) in
     let below = leb-false VIEW_LIMIT old.version.0 may.more in
     let is-new : IsViewAt c.style (0 + length c.views) new = record {
       numbered = omega (arith, number);

@@ -1,5 +1,5 @@
 -- What a request is answered, and what a host that stops leaves of itself.
-use Rattle.std.specs.Prelude.{◌≡◌, ℕ, ◌<◌, ◌≤◌, Bool, true, false, List, [], Option, Some, None}
+use Rattle.std.specs.Prelude.{◌≡◌, ℕ, Bool, true, false, List, [], Option, Some, None}
 use Rattle.ft_base.specs.Machine.{Machine, IsGivenAs}
 use Rattle.ft_base.specs.Laws.{Stays, Gives}
 use Rattle.ft_base.specs.declared.decisions.Decision.{Decision}
@@ -16,16 +16,16 @@ use Rattle.group_model.specs.declared.events.GroupAnswer.TheVariants as answers
 use Rattle.group_model.specs.declared.events.Out.{Out}
 use Rattle.group_model.specs.Plain.{Common, Host, Group, blank}
 use Rattle.group_model.specs.Asking.{signature_asked}
-use Rattle.group_model.specs.Views.{newest}
+use Rattle.group_model.specs.Views.{StillHas}
 use Rattle.group_model.specs.Events.{turn_of, after_event}
 use Rattle.group_model.specs.Agreeing.{Agrees, IsSound}
 
--- an outcome in the form that the operation gives, a named exception, or a version that the group has had
+-- an outcome in the form that the operation gives, a named exception, or the version of a view that the group still has
 abbrev pub IsAnswered : Machine → Common → Option (List ℕ) → Answer → Type 0
 IsAnswered m c op (Done outcome) = IsGivenAs (signature_asked m op) outcome
 IsAnswered m c op (System fault) = OnUnknown fault.kind (λ id. ⊥)
-IsAnswered m c op (Forward version) = (0 < version.0) × (version.0 ≤ newest c)
-IsAnswered m c op (ForwardPerm version) = (0 < version.0) × (version.0 ≤ newest c)
+IsAnswered m c op (Forward version) = StillHas c version.0
+IsAnswered m c op (ForwardPerm version) = StillHas c version.0
 
 -- A request of a sound group is answered so; a repeat too, as the operation that is asked for.
 abbrev pub AnswersAreGiven : Type 0

@@ -1,23 +1,24 @@
 -- A change of a group's members. (Chapter 23, `ObjectGroupManager`.)
-use Rattle.std.specs.Prelude.{ℕ, ◌+◌, ◌&&◌, not, Bool, true, false, nat_le, if◌then◌else◌, List, [], ◌∷◌, ◌++◌, length, Option, Some, None}
-use Rattle.std.specs.List.{filter}
+use Rattle.std.specs.Prelude.{ℕ, ◌+◌, ◌<◌, ◌&&◌, not, Bool, true, false, nat_le, if◌then◌else◌, List, [], ◌∷◌, ◌++◌, length, Option, Some, None}
+use Rattle.std.specs.List.{AllByRecursion, filter}
 use Rattle.ft_base.specs.Members.{first_of, is_member}
-use Rattle.ft_base.specs.declared.limits.TheConstants.{VIEW_LIMIT}
+use Rattle.ft_base.specs.declared.limits.TheConstants.{HOST_LIMIT, VIEW_LIMIT}
 use Rattle.ft_base.specs.declared.numbers.HostNo.{HostNo}
 use Rattle.ft_base.specs.declared.views.TheConstants.{MEMBER_LIMIT}
 use Rattle.ft_base.specs.declared.views.Style.{Style}
 use Rattle.ft_base.specs.declared.views.View.{View}
 use Rattle.group_model.specs.declared.changes.Change.{Change}
-use Rattle.group_model.specs.declared.changes.Change.TheVariants.{Report, Remove, Add, Create, Primary}
+use Rattle.group_model.specs.declared.changes.Change.TheVariants.{Report, Remove, Add, Create, Primary, Replace}
 use Rattle.group_model.specs.declared.changes.ManageFault.{ManageFault}
 use Rattle.group_model.specs.declared.changes.ManageFault.TheVariants.{NoFactory, MemberAlreadyPresent, ObjectNotAdded, ObjectNotCreated, BadReplicationStyle, MemberNotFound, PrimaryNotSet, ViewsFull, LogFault}
 use Rattle.group_model.specs.declared.events.GroupAnswer.TheVariants.{Changed, Refused}
 use Rattle.group_model.specs.declared.events.Inner.TheVariants as inners
 use Rattle.group_model.specs.declared.events.Out.{Out}
 use Rattle.group_model.specs.Plain.{Common, Host}
+use Rattle.group_model.specs.Spares.{with_spares}
 use Rattle.group_model.specs.Turns.{Turn, unchanged}
 use Rattle.ft_base.specs.Views.{is_led_by, is_passive}
-use Rattle.group_model.specs.Views.{version, host_no, newest_view, without, sent_to}
+use Rattle.group_model.specs.Views.{version, newest_view, without, sent_to}
 
 -- the host that a change names
 abbrev pub host_of_change : Change → HostNo
@@ -26,6 +27,20 @@ host_of_change (Remove host) = host
 host_of_change (Add host) = host
 host_of_change (Create host listed made) = host
 host_of_change (Primary host) = host
+host_of_change (Replace host spares) = host
+
+-- the hosts that come in its place
+abbrev pub spares_of : Change → List ℕ
+spares_of (Report host) = []
+spares_of (Remove host) = []
+spares_of (Add host) = []
+spares_of (Create host listed made) = []
+spares_of (Primary host) = []
+spares_of (Replace host spares) = spares
+
+-- each host that a change names is one that there can be
+abbrev pub NamesHosts : Change → Type 0
+NamesHosts change = ((host_of_change change).0 < HOST_LIMIT) × AllByRecursion (λ spare. spare < HOST_LIMIT) (spares_of change)
 
 -- a change lets its host join
 abbrev pub joins : Change → Bool
@@ -34,6 +49,7 @@ joins (Remove host) = false
 joins (Add host) = true
 joins (Create host listed made) = true
 joins (Primary host) = false
+joins (Replace host spares) = false
 
 abbrev pub leaves : Change → Bool
 leaves (Report host) = true
@@ -41,6 +57,7 @@ leaves (Remove host) = true
 leaves (Add host) = false
 leaves (Create host listed made) = false
 leaves (Primary host) = false
+leaves (Replace host spares) = true
 
 abbrev pub leads : Change → Bool
 leads (Report host) = false
@@ -48,6 +65,7 @@ leads (Remove host) = false
 leads (Add host) = false
 leads (Create host listed made) = false
 leads (Primary host) = true
+leads (Replace host spares) = false
 
 -- create_member, of a host that is no factory of the group
 abbrev pub is_unlisted : Change → Bool
@@ -56,6 +74,7 @@ is_unlisted (Remove host) = false
 is_unlisted (Add host) = false
 is_unlisted (Create host listed made) = not listed
 is_unlisted (Primary host) = false
+is_unlisted (Replace host spares) = false
 
 -- create_member, whose object wasn't made
 abbrev pub is_unmade : Change → Bool
@@ -64,6 +83,7 @@ is_unmade (Remove host) = false
 is_unmade (Add host) = false
 is_unmade (Create host listed made) = not made
 is_unmade (Primary host) = false
+is_unmade (Replace host spares) = false
 
 -- ---- refusals
 
@@ -95,11 +115,15 @@ change_rows style view change =
 
 -- ---- the next view
 
--- a host that joins comes last
-abbrev pub members_then : Change → List ℕ → List ℕ
-members_then change members =
+-- a host that joins comes last, and one that leaves is gone
+abbrev pub before_spares : Change → List ℕ → List ℕ
+before_spares change members =
     let host = (host_of_change change).0 in
     if joins change then members ++ host ∷ [] else (if leaves change then without host members else members)
+
+-- and then the spares
+abbrev pub members_then : Change → List ℕ → List ℕ
+members_then change members = with_spares (host_of_change change).0 (spares_of change) (before_spares change members)
 
 -- the primary stays while it is a member; else the first member is
 abbrev pub kept_or_first : Option HostNo → List ℕ → Option HostNo

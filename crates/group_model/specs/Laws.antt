@@ -34,9 +34,10 @@ Whatever P = (m : Machine) (g : Group) (steps : List Step) → P m g (after_step
 abbrev pub GroupsStaySound : Type 0
 GroupsStaySound = Onward (λ m g after. IsSound m after)
 
--- The journal only grows, so an accepted entry stays what it is, at its place; and so do the views. Time never
--- falls, nor how much has run.
+-- The journal only grows, so an accepted entry stays what it is, at its place; and so do the views. The group
+-- still has the views that it has. Time never falls, nor how much has run.
 pub record Grows (c after : Common) : Type 0 where
+  pub id : after.id ≡ c.id
   pub style : after.style ≡ c.style
   pub kind : after.kind ≡ c.kind
   pub opening : after.opening ≡ c.opening
@@ -44,6 +45,7 @@ pub record Grows (c after : Common) : Type 0 where
   pub journal : after.journal ≡ c.journal ++ more
   pub newer : List View
   pub views : after.views ≡ c.views ++ newer
+  pub first_kept : after.first_kept ≡ c.first_kept
   pub time : c.time ≤ after.time
   pub ran : c.ran ≤ after.ran
 

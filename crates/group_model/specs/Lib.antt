@@ -2,6 +2,7 @@ pub mod Plain
 pub mod Turns
 pub mod Asking
 pub mod Views
+pub mod Spares
 pub mod Decisions
 pub mod Serving
 pub mod Changes
@@ -14,4 +15,9 @@ pub mod Runs
 pub mod Counting
 pub mod Laws
 pub mod Sending
+pub mod Amounts
+pub mod Takers
+pub mod Steps
+pub mod Appending
 pub mod Answering
+pub mod Reopening

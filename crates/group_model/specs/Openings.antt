@@ -37,6 +37,7 @@ opening_common id style kind opening members = record {
   kind = kind;
   opening = opening;
   views = first_view style members ∷ [];
+  first_kept = 1;
   journal = [];
   time = 0;
   mark = 0;

@@ -17,6 +17,8 @@ pub record Common : Type 0 where
   pub opening : List ℕ
   -- its views, of which the k-th has version k
   pub views : List View
+  -- the version of the first view that it still has
+  pub first_kept : ℕ
   -- the accepted requests
   pub journal : List Entry
   -- the greatest tick of an acceptance or a checkpoint

@@ -1,5 +1,5 @@
 -- What a view says of a host.
-use Rattle.std.specs.Prelude.{ℕ, ◌-◌, Bool, true, false, nat_eq, List, [], ◌∷◌, length, map, Option, Some, None, slice_index_or, not}
+use Rattle.std.specs.Prelude.{◌≡◌, ℕ, ◌-◌, ◌<◌, ◌≤◌, ◌⊎◌, Bool, true, false, nat_eq, List, [], length, map, drop, None, slice_index_or, not}
 use Rattle.std.specs.List.{filter}
 use Rattle.ft_base.specs.declared.numbers.HostNo.{HostNo}
 use Rattle.ft_base.specs.declared.numbers.Version.{Version}
@@ -35,6 +35,27 @@ abbrev pub is_warm : Style → Bool
 is_warm Cold = false
 is_warm Warm = true
 is_warm Active = false
+
+-- ---- views that a group still has: it has lost the earlier ones where its log was opened again
+
+-- the newest view is among them
+pub record AreKept (first_kept : ℕ) (views : List View) : Type 0 where
+  pub some : 0 < first_kept
+  pub last : first_kept ≤ length views
+
+-- in order of version
+abbrev pub kept_views : Common → List View
+kept_views c = drop (c.first_kept - 1) c.views
+
+-- the view of this version is one of them
+abbrev pub StillHas : Common → ℕ → Type 0
+StillHas c version = (c.first_kept ≤ version) × (version ≤ newest c)
+
+-- a host knows no version, or that of one of them
+abbrev pub MayKnow : Common → ℕ → Type 0
+MayKnow c known = (known ≤ newest c) × ((known ≡ 0) ⊎ (c.first_kept ≤ known))
+
+-- ---- members
 
 -- the members but this one
 abbrev pub without : ℕ → List ℕ → List ℕ

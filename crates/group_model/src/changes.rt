@@ -1,8 +1,8 @@
-use ft_base::HostNo;
+use ft_base::{HostNo, Members};
 use thiserror::Error;
 
 /// A change of a group's members (chapter 23, `ObjectGroupManager`).
-#[derive(Clone, Copy, Debug, PartialEq, Eq)]
+#[derive(Debug, Drop)]
 pub enum Change {
     /// The host is reported faulty.
     Report(HostNo),
@@ -19,6 +19,12 @@ pub enum Change {
     },
     /// `set_primary_member`.
     Primary(HostNo),
+    /// The host is reported faulty, and spares come in its place: each in order that is no member then and
+    /// isn't the host, while there is room.
+    Replace {
+        host: HostNo,
+        spares: Members,
+    },
 }
 
 /// Why a change of members is refused, in the order in which the causes are looked at.

@@ -1,9 +1,13 @@
 //! The laws of a plain group over every list of events that agree. The functions do nothing: their
 //! contracts are facts.
+ghost use Rattle.group_model.specs.Amounts.{FewAreSent};
 ghost use Rattle.group_model.specs.Answering.{AnswersAreGiven, RequestsAreReplied, StopsAreTold};
+ghost use Rattle.group_model.specs.Appending.{NewRequestsAreAccepted, OnlyFaultsAreShown, OnlyLeadersAppend, UnshownFaultsChangeNothing};
 ghost use Rattle.group_model.specs.Counting.{CallsAreCounted};
 ghost use Rattle.group_model.specs.Laws.{GroupsGrow, RepliesStay, StatesStay, DeposedAppendNothing, AgreementLasts, KnowledgeNeverFalls, GroupsStaySound, JournalsStay, NoneRunsAhead, RefusalsChangeNothing};
 ghost use Rattle.group_model.specs.Sending.{WhatIsSentAgrees};
+ghost use Rattle.group_model.specs.Steps.{LeanGrows, LeanKeepsAgreement, LeanStaysSound, StepsGrow, StepsKeepAgreement, StepsStaySound};
+ghost use Rattle.group_model.specs.Takers.{TakersAreInside, TakersMayTake, UpdatersMaySend};
 
 use ft_base::{canonical_forms_are_of_values, replies_are_given, requests_join};
 
@@ -80,4 +84,51 @@ pub fn answers_are_given()
 /// has sent nothing.
 pub fn stops_are_told()
     ensures { StopsAreTold }
+{}
+
+/// Along any list of steps a group stays sound, and only grows; what could come to it, and has not come, can still come.
+/// So it is where memory was wanted, too.
+pub fn steps_go_on()
+    ensures sound { StepsStaySound }
+    ensures grow { StepsGrow }
+    ensures agree { StepsKeepAgreement }
+{
+    requests_join();
+    canonical_forms_are_of_values();
+}
+
+/// What want of memory leaves of a sound group is sound, has only more, and what could come to the group can come to it.
+pub fn lean_goes_on()
+    ensures sound { LeanStaysSound }
+    ensures grow { LeanGrows }
+    ensures agree { LeanKeepsAgreement }
+{
+    requests_join();
+    canonical_forms_are_of_values();
+}
+
+/// Only a host that knows the newest view appends, as its primary in a passive group and as a member in an active
+/// one. There a new request that no row refuses is accepted, where the write doesn't fail; or memory is wanted.
+pub fn leaders_append()
+    ensures only { OnlyLeadersAppend }
+    ensures accepted { NewRequestsAreAccepted }
+{}
+
+/// Where an answer shows no failed write, the turn doesn't depend on whether the log's next write fails. A write that
+/// doesn't fail is never shown as one that did.
+pub fn writes_are_shown()
+    ensures same { UnshownFaultsChangeNothing }
+    ensures shown { OnlyFaultsAreShown }
+{}
+
+/// No event sends more than `most_sent` says: to the members of one view.
+pub fn few_are_sent()
+    ensures { FewAreSent }
+{}
+
+/// The host that takes a checkpoint or sends an update now is up, and may do so.
+pub fn takers_may_take()
+    ensures inside { TakersAreInside }
+    ensures checkpoint { TakersMayTake }
+    ensures update { UpdatersMaySend }
 {}

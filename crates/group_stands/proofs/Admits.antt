@@ -30,13 +30,13 @@ use Rattle.group_stands.proofs.Places.{Passes, last_passes, find_there}
 use Rattle.group_stands.proofs.Tells.{version_told}
 
 -- what holds of both, each where the test says so
-either_so : {A : Type 0} (P : A → Type 0) (b : Bool) (x y : A) → (b ≡ true → P x) → (b ≡ false → P y) → P (if b then x else y)
+pub either_so : {A : Type 0} (P : A → Type 0) (b : Bool) (x y : A) → (b ≡ true → P x) → (b ≡ false → P y) → P (if b then x else y)
 either_so P true x y p q = p refl
 either_so P false x y p q = q refl
 
 -- ---- both say the same
 
-not_deposed : (version n : ℕ) (says : Admission) → version ≡ n → unless_deposed n version says ≡ admits.Admission says
+pub not_deposed : (version n : ℕ) (says : Admission) → version ≡ n → unless_deposed n version says ≡ admits.Admission says
 not_deposed version n says is = let no : nat_lt version n ≡ false = grind (arith, nat_tests) in ap (λ b. cond b (admits.Deposed (record { 0 = n })) (admits.Admission says)) no
 
 pub log_admits : AdmitsAsJournal → (machines : ℕ → Machine) (c : Common) (log : LogPicture) → LogStands machines c log →

@@ -56,6 +56,7 @@ pub sound_ran : (m : Machine) (c : Common) (n : ℕ) → n ≤ length c.journal 
 sound_ran m c n le s = record {
   opens = s.opens;
   views = s.views;
+  kept = s.kept;
   journal = s.journal;
   numbers = record { mark = omega (arith, s.numbers.mark); ran = omega (arith, s.numbers.ran, le); fresh = s.numbers.fresh };
 }
@@ -197,6 +198,7 @@ log_joined law fitting stay machines c log s version clock q new fits short =
       sound = record {
         opens = s.sound.opens;
         views = s.sound.views;
+        kept = s.sound.kept;
         journal =
             logged_joined fitting m c.time now c.journal e s.sound.journal (omega (arith, room, ends))
             (subst (λ (t : ℕ). IsJournal t (c.journal ++ e ∷ [])) at stands.is_journal) fits short;
@@ -227,6 +229,7 @@ log_checkpointed law machines c log s ran clock =
       sound = record {
         opens = s.sound.opens;
         views = s.sound.views;
+        kept = s.sound.kept;
         journal = record {
           few = s.sound.journal.few;
           so = journal_later c.time (max c.time clock.0) c.journal s.sound.journal.so (omega arith);

@@ -2,6 +2,7 @@ pub mod Places
 pub mod Runs
 pub mod Tells
 pub mod Admits
+pub mod Replies
 pub mod Goes
 pub mod Replicas
 pub mod Opens
@@ -9,3 +10,4 @@ pub mod Gives
 pub mod Holds
 pub mod Views
 pub mod NextViews
+pub mod Reopens

@@ -1,8 +1,9 @@
 -- The next view of a group is a view of its style, a log can write it, and the group's log goes on standing with
 -- it.
-use Rattle.std.proofs.Common.{◌≡◌, ℕ, zero, suc, ◌+◌, ◌-◌, ◌<◌, ◌≤◌, ◌&&◌, ◌||◌, Bool, true, false, List, [], ◌∷◌, ◌++◌, length, length-append, Option, Some, None, refl, sym, subst, ap, if◌then◌else◌, eqb-true, leb-false, arith}
+use Rattle.std.proofs.Common.{◌≡◌, ℕ, zero, suc, ◌+◌, ◌-◌, ◌<◌, ◌≤◌, ◌&&◌, ◌||◌, Bool, true, false, List, [], ◌∷◌, ◌++◌, length, length-append, Option, Some, None, refl, sym, subst, ap, ◌∙◌, if◌then◌else◌, eqb-true, leb-false, arith}
 use Rattle.std.specs.Prelude.{nat_eq, nat_le, not, slice_get, slice_index_or}
 use Rattle.std.specs.List.{AllByRecursion}
+use Rattle.std.proofs.lemmas.List.{drop-append-le}
 use Rattle.ft_base.specs.Machine.{Machine}
 use Rattle.ft_base.specs.Members.{is_member, AreDifferent}
 use Rattle.ft_base.specs.Views.{IsPrimary, IsPassivePrimary}
@@ -16,15 +17,16 @@ use Rattle.message_log.specs.Calls as logs
 use Rattle.message_log.specs.Picture.{Picture as LogPicture, IsLogged, IsPrimaryOf}
 use Rattle.ft_replica.specs.Picture.{Picture as ReplicaPicture}
 use Rattle.group_model.specs.declared.changes.Change.{Change}
-use Rattle.group_model.specs.declared.changes.Change.TheVariants.{Report, Remove, Add, Create, Primary}
+use Rattle.group_model.specs.declared.changes.Change.TheVariants.{Report, Remove, Add, Create, Primary, Replace}
 use Rattle.group_model.specs.declared.changes.ManageFault.{ManageFault}
 use Rattle.group_model.specs.Plain.{Common, Place}
 use Rattle.group_model.specs.Views.{no_view, view_at, newest_view, without}
 use Rattle.ft_base.specs.Members.{first_of}
-use Rattle.group_model.specs.Changes.{ChangeRow, first_fault, change_rows, host_of_change, joins, leaves, leads, members_then, kept_or_first, primary_then, next_view, with_view}
+use Rattle.group_model.specs.Changes.{ChangeRow, NamesHosts, first_fault, change_rows, host_of_change, spares_of, joins, leaves, leads, before_spares, members_then, kept_or_first, primary_then, next_view, with_view}
 use Rattle.group_model.specs.Agreeing.{IsViewAt, AreViews}
+use Rattle.group_model.specs.Spares.{AreMembers, SparesAreHosts, SparesJoin}
 use Rattle.group_stands.specs.Stands.{LogStands, ReplicaStands}
-use Rattle.group_stands.specs.Viewing.{IsNextView}
+use Rattle.group_stands.specs.Viewing.{IsNextView, NextViewsAreLogged}
 
 -- what holds of both, each where the test says so
 either_so : {A : Type 0} (P : A → Type 0) (b : Bool) (x y : A) → (b ≡ true → P x) → (b ≡ false → P y) → P (if b then x else y)
@@ -121,15 +123,9 @@ all_push : (P : ℕ → Type 0) (xs : List ℕ) (x : ℕ) → AllByRecursion P x
 all_push P [] x all p = (p, tt)
 all_push P (y ∷ xs) x all p = (all.0, all_push P xs x all.1 p)
 
--- different members, few, each a host that there can be
-record AreMembers (members : List ℕ) : Type 0 where
-  pub few : length members ≤ MEMBER_LIMIT
-  pub different : AreDifferent members
-  pub hosts : AllByRecursion (λ host. host < HOST_LIMIT) members
-
-members_sound : (style : Style) (view : View) (change : Change) → (host_of_change change).0 < HOST_LIMIT → MayChange style view change → AreMembers view.members →
-    AreMembers (members_then change view.members)
-members_sound style view change lt may old =
+first_sound : (style : Style) (view : View) (change : Change) → (host_of_change change).0 < HOST_LIMIT → MayChange style view change → AreMembers view.members →
+    AreMembers (before_spares change view.members)
+first_sound style view change lt may old =
     let host = (host_of_change change).0 in
     either_so AreMembers (joins change) (view.members ++ host ∷ []) (if leaves change then without host view.members else view.members)
     (λ joining. record {
@@ -144,6 +140,11 @@ members_sound style view change lt may old =
       hosts = all_without (λ n. n < HOST_LIMIT) host view.members old.hosts;
     })
     (λ same. old))
+
+members_sound : SparesJoin → (style : Style) (view : View) (change : Change) → NamesHosts change → MayChange style view change → AreMembers view.members →
+    AreMembers (members_then change view.members)
+members_sound joined style view change names may old =
+    joined (host_of_change change).0 (spares_of change) (before_spares change view.members) names.1 (first_sound style view change names.0 may old)
 
 -- ---- the primary
 
@@ -171,6 +172,7 @@ leading style view (Remove host) leads may = absurd cc
 leading style view (Add host) leads may = absurd cc
 leading style view (Create host listed made) leads may = absurd cc
 leading style view (Primary host) leads may = not_not (is_member host.0 view.members) may.there
+leading style view (Replace host spares) leads may = absurd cc
 
 passive_primary : (style : Style) (view : View) (change : Change) → MayChange style view change →
     IsPassivePrimary (members_then change view.members) (if leads change then Some (host_of_change change) else kept_or_first view.primary (members_then change view.members))
@@ -209,15 +211,15 @@ each_push P start (v ∷ views) new old p (suc k) view is =
     subst (λ (n : ℕ). P n view) (moved k)
     (each_push P (start + 1) views new (λ j w e. subst (λ (n : ℕ). P n w) (sym (moved j)) (old (suc j) w e)) (subst (λ (n : ℕ). P n new) (sym (moved (length views))) p) k view is)
 
-pub views_go_on : (c : Common) (change : Change) → (host_of_change change).0 < HOST_LIMIT → first_fault (change_rows c.style (newest_view c) change) ≡ None →
+pub views_go_on : SparesJoin → (c : Common) (change : Change) → NamesHosts change → first_fault (change_rows c.style (newest_view c) change) ≡ None →
     AreViews c.style c.views → AreViews c.style (c.views ++ next_view c.style (newest_view c) change ∷ [])
-views_go_on c change lt none sound =
+views_go_on joined c change names none sound =
     let old = newest_view c in
     let new = next_view c.style old change in
     let may = may_change c.style old change none in
     let last = sound.each (length c.views - 1) old (newest_there c.views sound.some) in
     let number : old.version.0 ≡ length c.views = omega (arith, last.numbered, sound.some) in
-    let members = members_sound c.style old change lt may (record { few = last.is.few; different = last.is.different; hosts = last.hosts }) in
+    let members = members_sound joined c.style old change names may (record { few = last.is.few; different = last.is.different; hosts = last.hosts }) in
     let below = leb-false VIEW_LIMIT old.version.0 may.more in
     let is-new : IsViewAt c.style (0 + length c.views) new = record {
       numbered = omega (arith, number);
@@ -249,28 +251,27 @@ primary_logged Warm members primary is = passive_logged members primary is
 primary_logged Active members None is = tt
 primary_logged Active members (Some host) is = absurd cc
 
-hosts_then : (change : Change) (members : List ℕ) → (host_of_change change).0 < HOST_LIMIT → AllByRecursion (λ host. host < HOST_LIMIT) members →
-    AllByRecursion (λ host. host < HOST_LIMIT) (members_then change members)
-hosts_then change members lt old =
+first_hosts : (change : Change) (members : List ℕ) → (host_of_change change).0 < HOST_LIMIT → AllByRecursion (λ host. host < HOST_LIMIT) members →
+    AllByRecursion (λ host. host < HOST_LIMIT) (before_spares change members)
+first_hosts change members lt old =
     let host = (host_of_change change).0 in
     either_so (AllByRecursion (λ n. n < HOST_LIMIT)) (joins change) (members ++ host ∷ []) (if leaves change then without host members else members)
     (λ joining. all_push (λ n. n < HOST_LIMIT) members host old lt)
     (λ staying. either_so (AllByRecursion (λ n. n < HOST_LIMIT)) (leaves change) (without host members) members
     (λ leaving. all_without (λ n. n < HOST_LIMIT) host members old) (λ same. old))
 
-pub next_logged : (style : Style) (view : View) (change : Change) → first_fault (change_rows style view change) ≡ None →
-    (host_of_change change).0 < HOST_LIMIT → AllByRecursion (λ host. host < HOST_LIMIT) view.members → IsLogged (next_view style view change)
-next_logged style view change may lt old =
+pub next_logged : SparesAreHosts → NextViewsAreLogged
+next_logged hosts style view change may names old =
     let members = members_then change view.members in
     record {
-      hosts = hosts_then change view.members lt old;
+      hosts = hosts (host_of_change change).0 (spares_of change) (before_spares change view.members) names.1 (first_hosts change view.members names.0 old);
       primary = primary_logged style members (primary_then style change view.primary members) (primary_sound style view change (may_change style view change may));
     }
 
 viewed : (machines : ℕ → Machine) (c : Common) (log : LogPicture) (view : View) → LogStands machines c log → AreViews c.style (c.views ++ view ∷ []) →
     LogStands machines (with_view c view) (logs.with_view log view)
 viewed machines c log view s views = record {
-  views = ap (λ (vs : List View). vs ++ view ∷ []) s.views;
+  views = ap (λ (vs : List View). vs ++ view ∷ []) s.views ∙ sym (drop-append-le (c.first_kept - 1) c.views (view ∷ []) (omega (arith, s.sound.kept.last)));
   mark = s.mark;
   time = s.time;
   journal = record { is_journal = s.journal.is_journal; marked = s.journal.marked; entries = s.journal.entries; table = record { are = s.journal.table.are; kept = s.journal.table.kept } };
@@ -279,15 +280,16 @@ viewed machines c log view s views = record {
   sound = record {
     opens = s.sound.opens;
     views = views;
+    kept = record { some = s.sound.kept.some; last = omega (arith, s.sound.kept.last, length-append c.views (view ∷ [])) };
     journal = s.sound.journal;
     numbers = record { mark = s.sound.numbers.mark; ran = s.sound.numbers.ran; fresh = s.sound.numbers.fresh };
   };
 }
 
-pub log_viewed : (machines : ℕ → Machine) (c : Common) (log : LogPicture) → LogStands machines c log →
+pub log_viewed : SparesJoin → (machines : ℕ → Machine) (c : Common) (log : LogPicture) → LogStands machines c log →
     (change : Change) (view : View) → IsNextView c change view → LogStands machines (with_view c view) (logs.with_view log view)
-log_viewed machines c log s change view next =
-    let views = views_go_on c change next.host next.may s.sound.views in
+log_viewed joined machines c log s change view next =
+    let views = views_go_on joined c change next.hosts next.may s.sound.views in
     viewed machines c log view s (subst (λ (v : View). AreViews c.style (c.views ++ v ∷ [])) (sym next.is) views)
 
 pub replica_viewed : (machines : ℕ → Machine) (c : Common) (replica : ReplicaPicture) (place : Place) → ReplicaStands machines c replica place →

@@ -45,6 +45,7 @@ fresh_stands law machines id style kind opening members plan faults opens is hos
       sound = record {
         opens = opens;
         views = first_views style (first_view style members) refl is hosts;
+        kept = record { some = omega arith; last = omega arith };
         journal = record { few = omega arith; so = stands.is_journal; fit = tt; short = tt };
         numbers = record { mark = omega arith; ran = omega arith; fresh = λ no. refl };
       };

@@ -1,6 +1,7 @@
 -- What a log that stands for a group tells of it.
-use Rattle.std.proofs.Common.{◌≡◌, ℕ, ◌+◌, ◌<◌, ◌≤◌, Bool, true, false, cond, List, [], ◌∷◌, ◌++◌, length, length-append, length-drop, drop, Option, Some, None, refl, sym, ap, subst, ◌∙◌, ltb-false, arith}
+use Rattle.std.proofs.Common.{◌≡◌, ℕ, ◌+◌, ◌<◌, ◌≤◌, Bool, true, false, cond, List, [], ◌∷◌, ◌++◌, length, length-append, length-drop, append_assoc, drop, take, Option, Some, None, refl, sym, ap, subst, ◌∙◌, ltb-false, arith}
 use Rattle.std.specs.Prelude.{◌-◌, nat_lt, slice_get, slice_index_or, option_map}
+use Rattle.std.proofs.lemmas.List.{take-append-drop}
 use Rattle.std.proofs.lemmas.Option.{slice_get_within}
 use Rattle.ft_base.specs.Machine.{Machine, Fits}
 use Rattle.ft_base.specs.Journal.{Entry}
@@ -8,10 +9,10 @@ use Rattle.ft_base.specs.declared.limits.TheConstants.{ARGUMENTS_LIMIT}
 use Rattle.ft_base.specs.declared.requests.Request.{Request}
 use Rattle.ft_base.specs.declared.views.View.{View}
 use Rattle.message_log.specs.Laws.{LendsJournal}
-use Rattle.message_log.specs.Picture.{Picture as LogPicture, length_of, request_at}
+use Rattle.message_log.specs.Picture.{Picture as LogPicture, length_of, request_at, views_of}
 use Rattle.group_model.specs.Agreeing.{AreViews}
 use Rattle.group_model.specs.Plain.{Common}
-use Rattle.group_model.specs.Views.{newest, no_view}
+use Rattle.group_model.specs.Views.{kept_views, newest, no_view}
 use Rattle.group_stands.specs.Stands.{LogStands}
 use Rattle.group_stands.specs.Telling.{Tells, IsLent}
 use Rattle.group_stands.proofs.Places.{get_within, all_get, push_last, last_or}
@@ -25,6 +26,15 @@ pub end_is : (machines : ℕ → Machine) (c : Common) (log : LogPicture) → Lo
 end_is machines c log s = ap (λ (es : List Entry). log.mark + length es) s.journal.entries ∙ length_drop log.mark c.journal s.journal.marked
 
 -- ---- its newest view
+
+-- the views before the newest, with those that the log has lost
+abbrev pub before : Common → LogPicture → List View
+before c log = take (c.first_kept - 1) c.views ++ log.earlier
+
+pub views_whole : (c : Common) (log : LogPicture) → views_of log ≡ kept_views c → before c log ++ log.newest ∷ [] ≡ c.views
+views_whole c log is =
+    let lost = take (c.first_kept - 1) c.views in
+    append_assoc lost log.earlier (log.newest ∷ []) ∙ ap (λ (vs : List View). lost ++ vs) is ∙ take-append-drop (c.first_kept - 1) c.views
 
 newest_is : (views earlier : List View) (v : View) → earlier ++ v ∷ [] ≡ views → slice_index_or views (length views - 1) no_view ≡ v
 newest_is views earlier v is =
@@ -40,12 +50,12 @@ version_is c earlier v is views =
     (views.each (length earlier) v at).numbered ∙ sym count
 
 pub version_told : (machines : ℕ → Machine) (c : Common) (log : LogPicture) → LogStands machines c log → log.newest.version.0 ≡ newest c
-version_told machines c log s = version_is c log.earlier log.newest s.views s.sound.views
+version_told machines c log s = version_is c (before c log) log.newest (views_whole c log s.views) s.sound.views
 
 pub tells : (machines : ℕ → Machine) (c : Common) (log : LogPicture) → LogStands machines c log → Tells c log
 tells machines c log s = record {
   end = end_is machines c log s;
-  view = sym (newest_is c.views log.earlier log.newest s.views);
+  view = sym (newest_is c.views (before c log) log.newest (views_whole c log s.views));
   version = version_told machines c log s;
 }
 

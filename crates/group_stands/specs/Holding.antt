@@ -1,6 +1,9 @@
 -- When the orders that a host holds back stand for the plain group, and how they go on.
-use Rattle.std.specs.Prelude.{◌≡◌, ℕ, ◌<◌, ◌≤◌, true, Bool, nat_eq, nat_le, if◌then◌else◌, List, [], ◌∷◌, ◌++◌, map, slice_get, Some}
-use Rattle.std.specs.List.{AllByRecursion, filter, list_any}
+use Rattle.std.specs.Prelude.{◌≡◌, ℕ, ◌<◌, ◌≤◌, true, Bool, nat_le, if◌then◌else◌, List, [], length, map, slice_get, Option, Some, is_some}
+use Rattle.std.specs.BTreeMap.{insert_entry, is_at}
+use Rattle.std.specs.List.{AllByRecursion, filter}
+use Rattle.std.specs.Map.{lookup}
+use Rattle.std.specs.Ordering.{nat_cmp}
 use Rattle.ft_base.specs.Machine.{Machine, Fits}
 use Rattle.ft_base.specs.Journal.{Entry}
 use Rattle.ft_base.specs.declared.limits.TheConstants.{JOURNAL_LIMIT}
@@ -15,40 +18,46 @@ use Rattle.group_stands.specs.Going.{moved}
 
 -- ---- orders that are held back
 
--- an order: an entry's place in the journal, and its request
-pub record HeldOrder : Type 0 where
-  pub index : ℕ
-  pub request : Request
+-- an order, as a map of orders has it: an entry's place in the journal, and its request
+abbrev pub HeldOrder : Type 0
+HeldOrder = ℕ × Request
 
 abbrev pub indices : List HeldOrder → List ℕ
-indices orders = map (λ (o : HeldOrder). o.index) orders
+indices orders = map (λ (o : HeldOrder). o.0) orders
 
--- whether one of them is of this entry
+-- the request of the order of this entry, where one is held
+abbrev pub request_of : ℕ → List HeldOrder → Option Request
+request_of i orders = lookup (is_at (nat_cmp i)) orders
+
 abbrev pub holds : ℕ → List HeldOrder → Bool
-holds i orders = list_any (λ (o : HeldOrder). nat_eq o.index i) orders
+holds i orders = is_some (request_of i orders)
 
 -- those of the entries from a position on
 abbrev pub orders_from : ℕ → List HeldOrder → List HeldOrder
-orders_from position orders = filter (λ (o : HeldOrder). nat_le position o.index) orders
+orders_from position orders = filter (λ (o : HeldOrder). nat_le position o.0) orders
 
--- with one more, unless one of this entry is held
+-- with one more at its place in the map, unless one of this entry is held
 abbrev pub with_order : ℕ → Request → List HeldOrder → List HeldOrder
-with_order i request orders = if holds i orders then orders else orders ++ record { index = i; request = request } ∷ []
+with_order i request orders = if holds i orders then orders else insert_entry nat_cmp orders i request
 
 -- ---- they stand for the plain group
 
 -- the request is the journal's at that place, some host has run it, and a host at this position has not
 pub record IsHeld (journal : List Entry) (ran position : ℕ) (order : HeldOrder) : Type 0 where
-  pub to_come : position ≤ order.index
-  pub has_run : order.index < ran
+  pub to_come : position ≤ order.0
+  pub has_run : order.0 < ran
   pub entry : Entry
-  pub there : slice_get journal order.index ≡ Some entry
-  pub same : entry.request ≡ order.request
+  pub there : slice_get journal order.0 ≡ Some entry
+  pub same : entry.request ≡ order.1
 
--- A host at a position holds these orders back: their numbers are those that the plain group's host holds, in
--- the same order, and each is of an entry that is still to come.
+-- the same numbers, in any order: of both as many pass any test
+abbrev pub AreSame : List ℕ → List ℕ → Type 0
+AreSame xs ys = (test : ℕ → Bool) → length (filter test xs) ≡ length (filter test ys)
+
+-- A host at a position holds these orders back: their numbers are those that the plain group's host holds, and
+-- each is of an entry that is still to come.
 pub record HoldStands (journal : List Entry) (ran position : ℕ) (holdback : List ℕ) (orders : List HeldOrder) : Type 0 where
-  pub numbers : indices orders ≡ holdback
+  pub numbers : AreSame (indices orders) holdback
   pub each : AllByRecursion (IsHeld journal ran position) orders
 
 -- ---- how they go on
@@ -99,8 +108,8 @@ HoldbacksTell = (journal : List Entry) (ran position : ℕ) (holdback : List ℕ
 -- each is an order of the group
 abbrev pub HeldAreOrdered : Type 0
 HeldAreOrdered = (c : Common) (position : ℕ) (holdback : List ℕ) (orders : List HeldOrder) →
-    HoldStands c.journal c.ran position holdback orders → (k : ℕ) (order : HeldOrder) → slice_get orders k ≡ Some order →
-    IsOrdered c order.index order.request × (is_held order.index holdback ≡ true)
+    HoldStands c.journal c.ran position holdback orders → (i : ℕ) (request : Request) → request_of i orders ≡ Some request →
+    IsOrdered c i request × (is_held i holdback ≡ true)
 
 -- ---- an order is run
 

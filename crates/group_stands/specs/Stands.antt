@@ -11,6 +11,7 @@ use Rattle.message_log.specs.Standing.{StandsFor}
 use Rattle.ft_replica.specs.Picture.{Picture as ReplicaPicture}
 use Rattle.group_model.specs.Plain.{Common, Place, state_at}
 use Rattle.group_model.specs.Agreeing.{IsSoundCommon}
+use Rattle.group_model.specs.Views.{kept_views}
 
 -- ---- the log
 
@@ -27,11 +28,11 @@ AreAnswered m opening journal ran table =
 abbrev pub state_taken : Machine → Common → Bool → Option (List ℕ)
 state_taken m c taken = if taken then Some (state_at m c c.mark) else None
 
--- The log's picture stands for what the hosts of a sound group share: its views, mark and time; its entries
+-- The log's picture stands for what the hosts of a sound group share: its mark and time, and the views that it still has; its entries
 -- are the journal's from the mark on, and it has retained what a repeat asks for, with the replies of what
 -- was run; its state is the checkpoint's. Its records, its plan, its faults and what is reserved don't count.
 pub record LogStands (machines : ℕ → Machine) (c : Common) (log : LogPicture) : Type 0 where
-  pub views : views_of log ≡ c.views
+  pub views : views_of log ≡ kept_views c
   pub mark : log.mark ≡ c.mark
   pub time : log.time ≡ c.time
   pub journal : StandsFor c.journal log

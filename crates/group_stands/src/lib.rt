@@ -6,11 +6,13 @@
 mod giving;
 mod going;
 mod holding;
+mod resuming;
 mod telling;
 mod viewing;
 
 pub use giving::{given_states_stand, replicas_give, what_is_given_stays};
 pub use going::{entries_run, logs_go_on, replicas_go_on};
 pub use holding::{holdbacks_go_on, orders_run};
-pub use telling::{logs_admit, logs_tell, repeats_are_answered, states_are_states};
+pub use resuming::logs_are_reopened;
+pub use telling::{logs_admit, logs_reply, logs_tell, repeats_are_answered, states_are_states};
 pub use viewing::{views_are_shown, views_join};

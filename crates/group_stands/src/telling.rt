@@ -1,5 +1,6 @@
 //! What a log and a replica that stand for a group tell of it. The functions do nothing: their
 //! contracts are facts.
+ghost use Rattle.group_stands.specs.Replying.{LogsReply};
 ghost use Rattle.group_stands.specs.Telling.{LogsTell, LogsLend, LogsHaveEntries, LogsAdmit, RepeatsAreAnswered, CaughtUpHasRun, CaughtUpRepeats, StatesAreStates, RepliesAreGiven};
 
 use ft_base::replies_are_given;
@@ -28,6 +29,13 @@ pub fn repeats_are_answered()
     ensures run { CaughtUpHasRun }
     ensures caught_up { CaughtUpRepeats }
 {}
+
+/// A log tells the reply that its group holds for a key.
+pub fn logs_reply()
+    ensures { LogsReply }
+{
+    logs_say_what_journals_say();
+}
 
 /// The states and replies of a group are those of its kind of servant.
 pub fn states_are_states()

@@ -2,7 +2,9 @@
 //! contracts are facts.
 ghost use Rattle.group_stands.specs.Viewing.{LogsShowViews, LogsShowNoOthers, NextViewsAreLogged, ViewsJoin, ReplicasGoOnViewed};
 
-/// A log has exactly its group's views, by their versions.
+use group_model::spares_join;
+
+/// A log has exactly the views that its group still has, by their versions.
 pub fn views_are_shown()
     ensures shown { LogsShowViews }
     ensures others { LogsShowNoOthers }
@@ -13,4 +15,6 @@ pub fn views_join()
     ensures logged { NextViewsAreLogged }
     ensures log { ViewsJoin }
     ensures replica { ReplicasGoOnViewed }
-{}
+{
+    spares_join();
+}

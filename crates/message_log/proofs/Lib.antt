@@ -6,3 +6,4 @@ pub mod ContentLaws
 pub mod TableLaws
 pub mod RecordLaws
 pub mod WritingLaws
+pub mod RecordingLaws

@@ -6,3 +6,4 @@ pub mod Laws
 pub mod Opening
 pub mod Written
 pub mod Retaining
+pub mod Recording

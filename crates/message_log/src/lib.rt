@@ -37,6 +37,7 @@ mod logs;
 mod opening;
 mod retaining;
 mod tidying;
+mod writes;
 
 pub use answers::{Admit, Appended, LogFault, ReopenFault};
 pub use laws::{
@@ -44,3 +45,4 @@ pub use laws::{
     records_are_read_again,
 };
 pub use logs::Log;
+pub use writes::writes_are_on_record;

@@ -1,5 +1,5 @@
 -- What a host that has caught up makes of a request is the plain group's turn.
-use Rattle.std.proofs.Common.{◌≡◌, ℕ, ◌+◌, inl, inr, max, Bool, false, [], ◌∷◌, ◌++◌, length, length-append, Option, Some, None, refl, sym, ap, subst, ◌∙◌, arith}
+use Rattle.std.proofs.Common.{◌≡◌, ℕ, ◌+◌, inl, inr, max, Bool, true, false, List, [], ◌∷◌, ◌++◌, length, length-append, Option, Some, None, refl, sym, ap, subst, ◌∙◌, arith}
 use Rattle.ft_base.specs.Machine.{Machine}
 use Rattle.ft_base.specs.Journal.{reply_at}
 use Rattle.ft_base.specs.declared.decisions.Decision.{Decision}
@@ -14,6 +14,8 @@ use Rattle.ft_outside.specs.Keeping.{plan_after}
 use Rattle.reply_table.specs.Entries.{reply_of}
 use Rattle.sys_faults.specs.declared.answers.Answer.{Answer}
 use Rattle.sys_faults.specs.declared.answers.Answer.TheVariants.{Done as Answered}
+use Rattle.sys_faults.specs.declared.faults.Completed.TheVariants.{Maybe}
+use Rattle.sys_faults.specs.declared.faults.SysKind.TheVariants as kinds
 use Rattle.message_log.specs.Admission.{admitted as log_admitted}
 use Rattle.message_log.specs.Calls.{kept, with_entry, with_outcome, accepted_by}
 use Rattle.log_records.specs.Records.{entry_record}
@@ -24,6 +26,8 @@ use Rattle.group_model.specs.declared.events.GroupAnswer.TheVariants.{Reply}
 use Rattle.ft_base.specs.Admissions.{admission}
 use Rattle.ft_base.specs.declared.admissions.Admission.{Admission}
 use Rattle.ft_base.specs.declared.admissions.Admission.TheVariants.{Same, New}
+use Rattle.group_model.specs.Lean.{IsToRun}
+use Rattle.group_model.specs.Decisions.{fault}
 use Rattle.group_model.specs.Plain.{Common, Host, Place, nowhere, with_ran}
 use Rattle.group_model.specs.Serving.{joined, accepted, admitted, served, orders, repeated}
 use Rattle.group_model.specs.Turns.{Turn, unchanged}
@@ -111,11 +115,12 @@ module _ (joining : ReplicasGoOnJoined) (blanks : BlanksStand) (machines : ℕ �
         calls = steps;
       }
 
-  pub unrun : (place : Place) (stop : Stop) (before now : Seen) (replica : ReplicaPicture) → HasJoined machines c place clock request before →
+  pub unrun : (place : Place) (stop : Stop) (before now : Seen) (replica : ReplicaPicture) → IsToRun stop → HasJoined machines c place clock request before →
       now.log ≡ before.log → replica.kind ≡ before.replica.kind → now.replica ≡ blanked replica → now.steps ≡ before.steps + calls_by stop → IsUnrun machines c clock request stop before.steps now
-  unrun place stop before now replica has log kind is steps = record {
+  unrun place stop before now replica to_run has log kind is steps = record {
     log = subst (LogStands machines after) (sym log) has.log;
     replica = blank_of c.kind replica now.replica after is (kind ∙ has.replica.kind) refl;
+    to_run = to_run;
     calls = steps;
   }
 
@@ -196,6 +201,23 @@ has_joined beside joins runs machines c place version clock request now reserved
 pub position_is : (machines : ℕ → Machine) (c : Common) (reserved log : LogPicture) (r : Option Reserved) (i : ℕ) → Reserves log reserved r → length_of log ≡ length c.journal →
     i ≡ length_of reserved → i ≡ length c.journal
 position_is machines c reserved log r i holds ends is = is ∙ ap length_of holds ∙ ends
+
+-- one whose write failed left all as it was
+pub failed_served : LogsGoOnBeside → (machines : ℕ → Machine) (c : Common) (h : Host) (host version clock : ℕ) (request : Request) (stop : Stop) (before : Seen)
+    (reserved after : LogPicture) (r : Option Reserved) (records : List (List ℕ)) (plan : Option (List Bool)) (faults : ℕ) → CanServe machines c h.place version request before →
+    admission c.journal (max clock c.time) request ≡ New → Reserves before.log reserved r → after ≡ kept reserved records plan faults →
+    IsTurn machines (served (machines c.kind) c h host clock request stop true) (alone decisions.LogFault (Some (fault kinds.PersistStore 1 Maybe))) before.steps (record before { log = after })
+failed_served beside machines c h host version clock request stop before reserved after r records plan faults can new holds is =
+    let same : after ≡ kept before.log records plan faults = is ∙ ap (λ (p : LogPicture). kept p records plan faults) holds in
+    turns_told machines c h host version clock request stop true (record before { log = after }) New decisions.LogFault (Some (fault kinds.PersistStore 1 Maybe))
+    (record {
+      log = subst (LogStands machines c) (sym same) (beside machines c before.log can.log None records plan faults);
+      replica = can.replica;
+      caught_up = can.caught_up;
+      newest = can.newest;
+      fits = can.fits;
+      short = can.short;
+    }) new refl
 
 -- one that joined and ran was served
 pub new_served : (machines : ℕ → Machine) (c : Common) (h : Host) (host clock position : ℕ) (request : Request) (stop : Stop) (s : Served) (before middle now : Seen) →

@@ -22,6 +22,7 @@ use Rattle.group_model.specs.declared.events.GroupAnswer.TheVariants.{Reply}
 use Rattle.group_model.specs.declared.events.Out.{Out}
 use Rattle.ft_base.specs.Admissions.{admission}
 use Rattle.ft_base.specs.declared.admissions.Admission.TheVariants.{Same, New}
+use Rattle.group_model.specs.Lean.{IsToRun}
 use Rattle.group_model.specs.Plain.{Common, Host, Place, nowhere}
 use Rattle.group_model.specs.Serving.{joined, accepted, served}
 use Rattle.group_model.specs.Turns.{Turn}
@@ -73,10 +74,12 @@ calls_by Never = 1
 calls_by AfterAppend = 0
 calls_by AfterExecute = 1
 
--- the request joined, no memory was found to run it or for the copy of its outcome, and the replica is blank
+-- the request joined, and its host was to run it; no memory was found for that or for the copy of its outcome, and the
+-- replica is blank
 pub record IsUnrun (machines : ℕ → Machine) (c : Common) (clock : ℕ) (request : Request) (stop : Stop) (before : ℕ) (now : Seen) : Type 0 where
   pub log : LogStands machines (joined c (max clock c.time) request) now.log
   pub replica : ReplicaStands machines (joined c (max clock c.time) request) now.replica nowhere
+  pub to_run : IsToRun stop
   pub calls : now.steps ≡ before + calls_by stop
 
 -- whether a decision shows that the log's write failed
@@ -137,9 +140,11 @@ TakesMemory other = ⊥
 
 -- ---- what the keeper did
 
--- the entry's record was kept: the last one
+-- the entry's record was kept, the last one, and the log has the entry
 pub record IsKept (old : LogPicture) (version : Version) (clock : Tick) (request : Request) (new : LogPicture) : Type 0 where
   pub foretold : IsForetold old.plan false
+  pub mark : new.mark ≡ old.mark
+  pub entries : new.entries ≡ old.entries ++ record { at = max clock.0 old.time; request = request } ∷ []
   pub records : new.records ≡ old.records ++ entry_record (accepted_by old version clock request) ∷ []
   pub plan : new.plan ≡ plan_after old.plan
   pub faults : new.faults ≡ old.faults

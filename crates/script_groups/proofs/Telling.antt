@@ -60,10 +60,6 @@ module _ (tell : CoresTell) (core : CorePicture) (g : ScriptGroup) (stands : IsS
   pub knows_is : (known : Version) → Knows known → known.0 ≡ its_host.known
   knows_is known knows = knows slot.at slot.there ∙ slot.tells.known
 
-  -- whether it is up, as its core tells
-  pub up_as_told : (down b : Bool) → IsDown down → down ≡ b → its_host.up ≡ not b
-  up_as_told down b told e = up_is down b slot.at slot.tells.up (told slot.at slot.there) e
-
   -- a host that is down
   pub down_stands : (down : Bool) → IsDown down → down ≡ true → standings.Down ≡ standing_of (machine_of g) (common_of g) its_host
   down_stands down is e =

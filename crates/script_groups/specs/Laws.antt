@@ -25,7 +25,7 @@ use Rattle.group_model.specs.Laws.{Grows, Lasts}
 use Rattle.group_model.specs.Sending.{brought, sent_by}
 use Rattle.script_groups.specs.Acting.{IsSoundGroup, MayCome}
 use Rattle.script_groups.specs.Groups.{ScriptGroup, acted, common_of, entries_caught_up, entries_run, group_of, machine_of, opened, orders_applied, reply_of, servant_calls, turn, with_more}
-use Rattle.script_groups.specs.Takers.{checkpoint_taker}
+use Rattle.script_groups.specs.Takers.{checkpoint_taker, update_taker}
 use Rattle.shipped_servants.specs.declared.kinds.Kind.{Kind}
 
 -- its plain group is that after the event
@@ -88,3 +88,10 @@ ShownAreViews = (g : ScriptGroup) (version : ℕ) (view : View) → IsSoundGroup
 -- the host that takes its checkpoints is one that there can be
 abbrev pub TakersAreInside : Type 0
 TakersAreInside = (g : ScriptGroup) → IsSoundGroup g → IfSome (checkpoint_taker g) (λ host. host.0 < HOST_LIMIT)
+
+-- it may take one, and the host that sends its updates may send one
+abbrev pub TakersMayTake : Type 0
+TakersMayTake = (g : ScriptGroup) (host : HostNo) (clock : Tick) → IsSoundGroup g → checkpoint_taker g ≡ Some host → MayCome g (events.Checkpoint host clock)
+
+abbrev pub UpdatersMaySend : Type 0
+UpdatersMaySend = (g : ScriptGroup) (host : HostNo) → IsSoundGroup g → update_taker g ≡ Some host → MayCome g (events.SendUpdate host)

@@ -1,5 +1,5 @@
 //! How a group of a script goes on. The functions do nothing: their contracts are facts.
-ghost use Rattle.script_groups.specs.Laws.{AnswersAreInForm, CallsAreCounted, CallsGoOn, EventsLast, GroupsGrow, GroupsStaySound, HistoriesGoOn, JournalsAcceptOnce, NoneCalledYet, RepliesStay, SentMayCome, ShownAreViews, TakersAreInside};
+ghost use Rattle.script_groups.specs.Laws.{AnswersAreInForm, CallsAreCounted, CallsGoOn, EventsLast, GroupsGrow, GroupsStaySound, HistoriesGoOn, JournalsAcceptOnce, NoneCalledYet, RepliesStay, SentMayCome, ShownAreViews, TakersAreInside, TakersMayTake, UpdatersMaySend};
 
 use group_model::{
     agreement_lasts, answers_are_given, groups_grow, groups_stay_sound, journals_stay,
@@ -53,7 +53,12 @@ pub fn shown_are_views()
     ensures { ShownAreViews }
 {}
 
-/// The host that takes a group's checkpoints is one that there can be.
-pub fn takers_are_inside()
-    ensures { TakersAreInside }
-{}
+/// The host that takes a group's checkpoints is one that there can be, and may take one; and the host that sends its
+/// updates may send one.
+pub fn takers_may_take()
+    ensures inside { TakersAreInside }
+    ensures checkpoint { TakersMayTake }
+    ensures update { UpdatersMaySend }
+{
+    group_model::takers_may_take();
+}

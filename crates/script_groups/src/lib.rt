@@ -32,5 +32,5 @@ mod taking;
 pub use groups::ScriptGroup;
 pub use laws::{
     answers_are_in_form, calls_are_counted, groups_go_on, groups_keep_entries, shown_are_views,
-    takers_are_inside,
+    takers_may_take,
 };

@@ -38,7 +38,7 @@ impl ScriptGroup {
     {
         cores_tell();
         let core = self.core();
-        if core.is_down(host) {
+        if core.down(host) {
             return Ok(Standing::Down);
         }
         let known = core.known(host);

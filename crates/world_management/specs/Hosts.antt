@@ -1,5 +1,5 @@
 -- Lines that stop and start hosts, change members and report faults, and what `show` prints.
-use Rattle.std.specs.Prelude.{ℕ, ◌+◌, not, false, if◌then◌else◌, List, [], ◌∷◌, length}
+use Rattle.std.specs.Prelude.{ℕ, ◌+◌, not, false, if◌then◌else◌, List, [], ◌∷◌, length, Option, Some, None}
 use Rattle.ft_base.specs.declared.numbers.GroupId.{GroupId}
 use Rattle.ft_base.specs.declared.numbers.HostNo.{HostNo}
 use Rattle.fault_notifier.specs.declared.events.FaultEvent.{FaultEvent}
@@ -66,10 +66,19 @@ change_of words.Report host = changes.Report host
 abbrev pub fault_of : Kind → GroupId → HostNo → FaultEvent
 fault_of kind group host = record { domain = DOMAIN; host = host; type_id = type_id kind; group = group }
 
--- a report that was accepted is a fault; no other change is
+-- the host that a change reports as faulty
+abbrev pub reported_by : Change → Option HostNo
+reported_by (changes.Report host) = Some host
+reported_by (changes.Replace host spares) = Some host
+reported_by other = None
+
+abbrev pub with_told : World → Kind → GroupId → Option HostNo → World
+with_told w kind group None = w
+with_told w kind group (Some host) = with_fault w (fault_of kind group host)
+
+-- a report that was accepted is a fault, whether or not spares come; no other change is
 abbrev pub with_reported : World → Kind → GroupId → Change → World
-with_reported w kind group (changes.Report host) = with_fault w (fault_of kind group host)
-with_reported w kind group other = w
+with_reported w kind group change = with_told w kind group (reported_by change)
 
 -- the new view is sent, or the change was refused
 abbrev pub changed : World → HostNo → ScriptGroup → Change → GroupAnswer → Effect

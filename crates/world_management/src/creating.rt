@@ -3,7 +3,7 @@
 ghost use Rattle.std.specs.Prelude.{◌≡◌, ℕ, ◌<◌, ◌≤◌, ◌^◌, ◌++◌, [], ◌∷◌, false, None, IfOk, OnOk, Some, length, slice_get};
 ghost use Rattle.ft_base.specs.declared.limits.TheConstants.{HOST_LIMIT};
 ghost use Rattle.generic_factory.specs.Creating.{refusal};
-ghost use Rattle.group_model.specs.Changes.{host_of_change};
+ghost use Rattle.group_model.specs.Changes.{host_of_change, spares_of};
 ghost use Rattle.property_manager.specs.Hosts.{factories};
 ghost use Rattle.property_manager.specs.Levels.{has_name};
 ghost use Rattle.script_groups.specs.Groups.{ScriptGroup as Group, placed};
@@ -255,6 +255,7 @@ fn creation(world: &World, place: usize, host: HostNo) -> Change
     requires kept { IsKeptWorld world.now }
     ensures value { (g : Group) → slice_get world.now.groups place ≡ Some g → result ≡ creation world.now g host.0 }
     ensures host { host_of_change result ≡ host }
+    ensures alone { spares_of result ≡ [] }
 {
     let listed = is_listed(world, place, host);
     let made = can_make(world, host);

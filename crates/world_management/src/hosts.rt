@@ -1,11 +1,12 @@
 //! Hosts that stop and start, and members that change.
 ghost use Rattle.std.specs.Prelude.{◌≡◌, ℕ, ◌<◌, [], ◌∷◌, IfOk, OnOk, Some, length, slice_get};
+ghost use Rattle.std.specs.List.{AllByRecursion};
 ghost use Rattle.world_turns.specs.Answers.{Acts, Does, DoesMore};
-ghost use Rattle.world_management.specs.Hosts.{change_line, change_of, change_to, changes_members, crash_line, fault_of, on_host, restart_line, show_line, with_reported};
+ghost use Rattle.world_management.specs.Hosts.{change_line, change_of, change_to, changes_members, crash_line, fault_of, on_host, reported_by, restart_line, show_line, with_told};
 ghost use Rattle.world_turns.specs.Naming.{There, gone};
 ghost use Rattle.ft_base.specs.declared.limits.TheConstants.{HOST_LIMIT};
 ghost use Rattle.script_world.specs.Sound.{IsKeptWorld};
-ghost use Rattle.group_model.specs.Changes.{host_of_change};
+ghost use Rattle.group_model.specs.Changes.{host_of_change, spares_of};
 ghost use Rattle.script_groups.specs.Groups.{ScriptGroup as Group, placed};
 
 use fault_notifier::FaultEvent;
@@ -21,7 +22,8 @@ use std::sync::ledger::Ledger;
 use world_turns::{Named, gone, group_called, one_line, push_view, send_all};
 
 fn change_of(change: MemberChange, host: HostNo) -> Change
-    ensures { result ≡ change_of change host }
+    ensures value { result ≡ change_of change host }
+    ensures alone { spares_of result ≡ [] }
 {
     match change {
         MemberChange::Add => Change::Add(host),
@@ -92,21 +94,32 @@ fn fault_of(alloc: Global, kind: Kind, group: GroupId, host: HostNo) -> Result<F
     })
 }
 
+// The host that a change reports as faulty.
+fn reported_by(change: &Change) -> Option<HostNo>
+    ensures { result ≡ reported_by change.now }
+{
+    match change {
+        Change::Report(host) => Some(*host),
+        Change::Replace { host, .. } => Some(*host),
+        _ => None,
+    }
+}
+
 // A report that was accepted is a fault; no other change is.
 fn tell_reported(
     world: &mut World,
     kind: Kind,
     group: GroupId,
-    change: Change,
+    reported: Option<HostNo>,
 ) -> Result<(), NoMemory>
-    ensures { OnOk result (world.new ≡ with_reported world.old kind group change) }
+    ensures { OnOk result (world.new ≡ with_told world.old kind group reported) }
 {
-    match change {
-        Change::Report(host) => {
+    match reported {
+        None => Ok(()),
+        Some(host) => {
             let event = fault_of(world.alloc(), kind, group, host)?;
             world.tell_fault(event)
         }
-        _ => Ok(()),
     }
 }
 
@@ -123,6 +136,7 @@ pub fn push_change<L: Ledger>(
     requires within { place < length world.old.groups }
     requires host { host.0 < HOST_LIMIT }
     requires named { host_of_change change ≡ host }
+    requires spares { AllByRecursion (λ spare. spare < HOST_LIMIT) (spares_of change) }
     requires kept { IsKeptWorld world.old }
     ensures did { (g : Group) → slice_get world.old.groups place ≡ Some g →
         DoesMore (changes_members world.old (placed place g) change host) result report.old report.new world.new steps.old steps.new }
@@ -132,11 +146,12 @@ pub fn push_change<L: Ledger>(
     let name = world.group(place).name().copy(alloc)?;
     let group = world.group(place).id();
     let kind = world.group(place).kind();
+    let reported = reported_by(&change);
     match world.event_at(place, Event::Manage(change), steps) {
         GroupAnswer::Changed { view, out } => {
             push_view(alloc, report, &name, view)?;
             send_all(world, report, group, &name, host, out)?;
-            tell_reported(world, kind, group, change)
+            tell_reported(world, kind, group, reported)
         }
         GroupAnswer::Refused(why) => report.push(ReportLine::Refused(why)),
         GroupAnswer::NoMemory => Err(NoMemory),
@@ -155,6 +170,7 @@ pub(crate) fn change_members<L: Ledger>(
     requires within { place < length world.old.groups }
     requires host { host.0 < HOST_LIMIT }
     requires named { host_of_change change ≡ host }
+    requires spares { AllByRecursion (λ spare. spare < HOST_LIMIT) (spares_of change) }
     requires kept { IsKeptWorld world.old }
     ensures { (g : Group) → slice_get world.old.groups place ≡ Some g →
         Does (changes_members world.old (placed place g) change host) result world.new steps.old steps.new }

@@ -24,6 +24,7 @@ reported_groups w kind group (changes.Remove host) = refl
 reported_groups w kind group (changes.Add host) = refl
 reported_groups w kind group (changes.Create host listed made) = refl
 reported_groups w kind group (changes.Primary host) = refl
+reported_groups w kind group (changes.Replace host spares) = refl
 
 changed_groups : (w : World) (host : HostNo) (g : ScriptGroup) (change : Change) (answer : GroupAnswer) → (changed w host g change answer).world.groups ≡ w.groups
 changed_groups w host g change (answers.Changed view out) = reported_groups (all_sent w g.id out) g.kind g.id change

@@ -14,7 +14,7 @@ use fault_script::LineFault;
 use ft_base::{HostNo, Name, NoMemory, Steps};
 use ft_report::{ReportLine, ReportLines};
 use group_model::{Event, GroupAnswer};
-use script_groups::takers_are_inside;
+use script_groups::takers_may_take;
 use script_world::World;
 use std::sync::ledger::Ledger;
 use world_turns::{Named, gone, group_called, one_line, send_all};
@@ -67,6 +67,8 @@ fn checkpoint_at<L: Ledger>(
     ensures { (g : Group) → slice_get world.old.groups place ≡ Some g →
         Does (checkpoint_by world.old (placed place g) (Some host)) result world.new steps.old steps.new }
 {
+    takers_may_take();
+    world.group(place).is_sound();
     let event = Event::Checkpoint {
         host,
         clock: world.host_clock(host),
@@ -88,7 +90,7 @@ fn checkpoint<L: Ledger>(
     ensures { (g : Group) → slice_get world.old.groups place ≡ Some g →
         Does (checkpoint_by world.old (placed place g) (checkpoint_taker g)) result world.new steps.old steps.new }
 {
-    takers_are_inside();
+    takers_may_take();
     let group = world.group(place);
     group.is_sound();
     if let Some(host) = group.checkpoint_taker() {

@@ -14,7 +14,7 @@ use fault_script::LineFault;
 use ft_base::{HostNo, Name, NoMemory, Steps};
 use ft_report::{ReportLine, ReportLines};
 use group_model::{Event, GroupAnswer};
-use script_groups::takers_are_inside;
+use script_groups::takers_may_take;
 use script_world::World;
 use std::sync::ledger::Ledger;
 use world_turns::{Named, gone, group_called, one_line, send_all};
@@ -69,6 +69,8 @@ fn update_at<L: Ledger>(
     ensures { (g : Group) → slice_get world.old.groups place ≡ Some g →
         Does (update_by world.old (placed place g) (Some host)) result world.new steps.old steps.new }
 {
+    takers_may_take();
+    world.group(place).is_sound();
     let event = Event::SendUpdate(host);
     match world.event_at(place, event, steps) {
         GroupAnswer::NoMemory => Err(NoMemory),
@@ -87,7 +89,7 @@ fn update<L: Ledger>(
     ensures { (g : Group) → slice_get world.old.groups place ≡ Some g →
         Does (update_by world.old (placed place g) (update_taker g)) result world.new steps.old steps.new }
 {
-    takers_are_inside();
+    takers_may_take();
     let group = world.group(place);
     group.is_sound();
     if let Some(host) = group.update_taker() {

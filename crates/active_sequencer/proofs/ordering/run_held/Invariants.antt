@@ -1,4 +1,4 @@
-use Rattle.std.proofs.Common.{◌≡◌, ℕ, ◌+◌, ◌≤◌, List, length}
+use Rattle.std.proofs.Common.{◌≡◌, ℕ, ◌+◌, List}
 use Rattle.group_model.specs.Plain.{Common, Place}
 use Rattle.active_sequencer.specs.Orders.{CanRun}
 use Rattle.active_sequencer.proofs.Running.{IsUnderway}
@@ -11,5 +11,4 @@ invariant-loop-done g l =
     record {
       way : (c : Common) (place : Place) (holdback : List ℕ) → CanRun machines c place holdback l.orders l.fn.replica → IsUnderway machines c place holdback l.replica l._done;
       calls : l.steps ≡ l.fn.steps + l._done;
-      start : l.start ≤ length l.orders;
     }

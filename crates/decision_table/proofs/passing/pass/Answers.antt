@@ -6,7 +6,7 @@ pub view_of-view-requires : goal.view_of-view-requires
 view_of-view-requires g c =
     let stands = c.requires.stands in (
       view_at stands.0.views c.args.known.0,
-      c.views_are_shown.ensures.shown g.S.Servant.machine stands.0 c.args.log.now stands.1.log c.args.known.0 stands.1.some stands.1.few,
+      c.views_are_shown.ensures.shown g.S.Servant.machine stands.0 c.args.log.now stands.1.log c.args.known.0 stands.1.has,
     )
 
 pub returns-clause-served : goal.returns-clause-served

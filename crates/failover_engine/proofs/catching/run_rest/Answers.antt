@@ -1,8 +1,23 @@
 use Rattle.std.proofs.Common.{◌≡◌, length, arith, ap, ◌∙◌, subst}
 use Rattle.message_log.specs.Picture.{Picture as LogPicture}
+use Rattle.group_model.specs.Plain.{with_ran}
 use Rattle.failover_engine.specs.Catching.{IsAt}
 use Rattle.failover_engine.proofs.Running.{at_next}
 use Rattle.failover_engine.proofs.catching.run_rest.Goals as goal
+
+pub run_next-requires : goal.run_next-requires
+run_next-requires g c =
+    let r = c.requires in
+    let here = c.loop-at.invariant.at r.0 r.1 r.2 r.3 r.4 r.5 in
+    let end : c.length-end.result ≡ length r.0.journal = c.length-end.ensures.value ∙ (c.logs_tell.ensures.tell g.S.Servant.machine r.0 c.args.log.now r.2).end in (
+      with_ran c.loop-at.at r.0,
+      record r.1 { position = c.loop-at.at },
+      here.log_stands,
+      here.replica_stands,
+      r.4,
+      omega (arith, here.first, r.5),
+      omega (arith, end, c.loop-at-test.true),
+    )
 
 pub loop-at-preserved : goal.loop-at-preserved
 loop-at-preserved g c = record {

@@ -28,5 +28,5 @@ pub returns-in-Manage-clause-turn : goal.returns-in-Manage-clause-turn
 returns-in-Manage-clause-turn g c = λ group here agrees.
     let here' = rw c.in-Manage.is at here in
     let named = rw c.in-Manage.is at agrees in
-    let can : CanManage g.S.Servant.machine group.common c.args.founding.now.style c.in-Manage.change c.args.log.now = record { style = here'.style; log = here'.log; host = named.host } in
+    let can : CanManage g.S.Servant.machine group.common c.args.founding.now.style c.in-Manage.change c.args.log.now = record { style = here'.style; log = here'.log; hosts = (named.host, named.brought) } in
     rw c.in-Manage.is (managed_taken c.views_join.ensures.replica g.S.Servant.machine group _ c.in-Manage.change _ here' c.manage.result c.args.steps.now c.manage.new.log (c.manage.ensures.managed g.S.Servant.machine group.common (group.hosts (host_of_change c.in-Manage.change).0) can))

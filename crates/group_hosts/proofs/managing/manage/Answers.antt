@@ -1,13 +1,16 @@
-use Rattle.group_hosts.proofs.Manages.{differ, are_hosts, changed_so, not_written, not_full}
+use Rattle.group_hosts.proofs.Manages.{differ, are_hosts, changed_so, not_written, not_full, refused_quiet}
 use Rattle.group_hosts.proofs.managing.manage.Goals as goal
 
 pub changed-requires : goal.changed-requires
-changed-requires g c = let r = c.requires in rw c.newest.ensures.value (differ r.0 r.1 c.args.style c.args.change c.args.log.now r.2)
+changed-requires g c = let r = c.requires in rw c.newest.ensures.value (differ r.0 r.1 c.args.style c.args.change c.args.log.now r.2 c.logs_tell.ensures.tell)
 
 pub new_view-requires-clause-logged : goal.new_view-requires-clause-logged
 new_view-requires-clause-logged g c =
     let r = c.requires in
-    c.in-Ok.ensures.logged (rw c.newest.ensures.value (are_hosts r.0 r.1 c.args.style c.args.change c.args.log.now r.2)) r.2.host
+    c.in-Ok.ensures.logged (rw c.newest.ensures.value (are_hosts r.0 r.1 c.args.style c.args.change c.args.log.now r.2 c.logs_tell.ensures.tell)) r.2.hosts
+
+pub returns-in-Err-clause-wrote : goal.returns-in-Err-clause-wrote
+returns-in-Err-clause-wrote g c = refused_quiet c.args.log.now c.args.style c.newest.result.now c.args.change c.in-Err.fault c.in-Err.ensures.refused
 
 pub returns-in-Ok-new_view-clause-managed : goal.returns-in-Ok-new_view-clause-managed
 returns-in-Ok-new_view-clause-managed g c = λ machines common h can.

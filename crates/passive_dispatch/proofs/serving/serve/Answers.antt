@@ -3,8 +3,10 @@ use Rattle.ft_base.specs.Journal.{reply_at}
 use Rattle.ft_base.specs.declared.admissions.Admission.TheVariants.{Same, New}
 use Rattle.message_log.specs.declared.answers.Admit.TheVariants as admits
 use Rattle.message_log.specs.Calls.{reserved_for}
+use Rattle.ft_outside.specs.Outside.{next_count}
+use Rattle.ft_outside.specs.Keeping.{plan_after}
 use Rattle.passive_dispatch.specs.Served.{seen}
-use Rattle.passive_dispatch.proofs.Serves.{says, repeat_reply, repeat_told, repeat_written, has_joined, position_is, new_served}
+use Rattle.passive_dispatch.proofs.Serves.{says, repeat_reply, repeat_told, repeat_written, has_joined, position_is, failed_served, new_served}
 use Rattle.passive_dispatch.proofs.serving.serve.Goals as goal
 
 pub repeat-requires : goal.repeat-requires
@@ -30,6 +32,17 @@ returns-in-Same-clause-written g c =
     let there = repeat_reply c.logs_admit.ensures c.repeats_are_answered.ensures.caught_up g.S.Servant.machine r.0 r.1 c.args.version.0 c.args.arrival.clock.0 c.args.request
     (seen c.args.log.now c.args.replica.now c.args.steps.now) c.in-Same.position r.2 (ap admits.Admission (sym c.in-Same.is) ∙ c.in-Admission.ensures) in
     repeat_written c.in-Same.position _ c.repeat.result c.args.log.now c.args.version c.args.arrival.clock c.args.request (c.repeat.ensures _ there)
+
+pub returns-in-Failed-clause-served : goal.returns-in-Failed-clause-served
+returns-in-Failed-clause-served g c = λ common h can.
+    let machines = g.S.Servant.machine in
+    let before = seen c.args.log.now c.args.replica.now c.args.steps.now in
+    let reserved = Some (reserved_for c.args.log.now c.args.version c.args.arrival.clock c.args.request) in
+    let said = says c.logs_admit.ensures machines common h.place c.args.version.0 c.args.arrival.clock.0 c.args.request before New can (ap admits.Admission (sym c.in-New.is) ∙ c.in-Admission.ensures) in
+    rw c.unwritten.ensures
+    (failed_served c.logs_go_on.ensures.beside machines common h c.args.arrival.host.0 c.args.version.0 c.args.arrival.clock.0 c.args.request c.args.arrival.stop before
+    c.reserve.new.self c.append_reserved.new.self reserved c.reserve.new.self.records (plan_after c.reserve.new.self.plan) (next_count c.reserve.new.self.faults) can said
+    c.in_default-reserve.ensures.ok c.in-Failed.ensures.1)
 
 pub run_joined-requires : goal.run_joined-requires
 run_joined-requires g c =

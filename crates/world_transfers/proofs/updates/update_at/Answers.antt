@@ -2,6 +2,7 @@ use Rattle.std.proofs.Common.{refl, sym, subst, ◌∙◌}
 use Rattle.std.specs.List.{AllByRecursion}
 use Rattle.group_model.specs.Sending.{sent_by}
 use Rattle.group_model.specs.declared.events.Event.TheVariants as events
+use Rattle.script_groups.specs.Acting.{IsSoundGroup}
 use Rattle.script_groups.specs.Groups.{ScriptGroup, acted}
 use Rattle.script_world.specs.Sound.{IsOnItsWay}
 use Rattle.script_world.specs.World.{carried}
@@ -11,6 +12,10 @@ use Rattle.script_groups.specs.Lists.{same_some, some_at}
 use Rattle.script_world.specs.Made.{has_turn, is_made}
 use Rattle.std.proofs.lemmas.Option.{slice_get_within}
 use Rattle.world_transfers.proofs.updates.update_at.Goals as goal
+
+pub event_at-requires-clause-may : goal.event_at-requires-clause-may
+event_at-requires-clause-may l c = λ g at.
+    c.takers_may_take.ensures.update g c.args.host (subst IsSoundGroup (same_some c.group.result.now g (sym c.group.ensures ∙ at)) c.is_sound.ensures) (c.requires.takes g at)
 
 pub updated-requires : goal.updated-requires
 updated-requires l c =
