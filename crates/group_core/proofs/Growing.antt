@@ -3,7 +3,6 @@ use Rattle.std.proofs.Common.{◌≡◌, ℕ, ◌<◌, ◌≤◌, ◌⊎◌, Lis
 use Rattle.std.specs.List.{AllByRecursion}
 use Rattle.ft_base.specs.Machine.{Machine}
 use Rattle.ft_base.specs.Laws.{Stays}
-use Rattle.group_model.specs.declared.events.Event.{Event}
 use Rattle.group_model.specs.Agreeing.{IsSoundHost, IsSound, Agrees}
 use Rattle.group_model.specs.Events.{after_event}
 use Rattle.group_model.specs.Laws.{Grows, GroupsGrow, GroupsStaySound}

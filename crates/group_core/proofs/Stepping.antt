@@ -1,5 +1,5 @@
 -- An event at a core is a step of its group.
-use Rattle.std.proofs.Common.{ℕ, refl}
+use Rattle.std.proofs.Common.{refl}
 use Rattle.group_model.specs.declared.events.GroupAnswer.TheVariants as answers
 use Rattle.group_core.specs.Acting.{IsTaken}
 use Rattle.group_core.specs.Stepping.{ActsAreSteps}

@@ -1,11 +1,10 @@
 -- What a core and its log's keeper tell.
 use Rattle.std.proofs.Common.{◌≡◌, ℕ, ◌<◌, ◌≤◌, inl, inr, max, Bool, true, false, List, [], ◌∷◌, length-append, Option, Some, None, refl, sym, subst, ap, ◌∙◌, arith}
-use Rattle.std.specs.Prelude.{◌&&◌, ◌+◌, ◌==◌, length, nat_lt, nat_le, if◌then◌else◌}
+use Rattle.std.specs.Prelude.{◌&&◌, ◌+◌, ◌==◌, length, nat_le, if◌then◌else◌}
 use Rattle.std.proofs.lemmas.Bool.Decides.{nat_tests}
 use Rattle.ft_base.specs.Machine.{Machine}
 use Rattle.ft_base.specs.declared.decisions.Decision.{Decision}
 use Rattle.ft_base.specs.declared.decisions.Decision.TheVariants as decisions
-use Rattle.ft_base.specs.Journal.{Entry}
 use Rattle.ft_outside.specs.Keeping.{plan_after, IsForetold}
 use Rattle.ft_outside.specs.Outside.{next_count}
 use Rattle.sys_faults.specs.declared.answers.Answer.{Answer}

@@ -9,7 +9,6 @@ use Rattle.ft_base.specs.Members.{is_member}
 use Rattle.ft_base.specs.Views.{is_passive}
 use Rattle.ft_base.specs.declared.limits.TheConstants.{HOST_LIMIT}
 use Rattle.ft_base.specs.declared.numbers.HostNo.{HostNo}
-use Rattle.ft_base.specs.declared.views.Style.{Style}
 use Rattle.ft_base.specs.declared.views.View.{View}
 use Rattle.message_log.specs.Picture as pictures
 use Rattle.group_model.specs.Agreeing.{IsViewAt, first_up, taking_host}

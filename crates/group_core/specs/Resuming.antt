@@ -23,7 +23,7 @@ use Rattle.message_log.specs.declared.answers.ReopenFault.TheVariants.{NoMemory}
 use Rattle.message_log.specs.declared.tidying.Tidied.{Tidied}
 use Rattle.group_model.specs.Agreeing.{IsSound}
 use Rattle.group_model.specs.Changes.{with_view}
-use Rattle.group_model.specs.Plain.{Common, Group, blank, state_at}
+use Rattle.group_model.specs.Plain.{Group, blank, state_at}
 use Rattle.group_model.specs.Reopening.{reopened}
 use Rattle.group_model.specs.Serving.{joined}
 use Rattle.group_model.specs.Transfers.{marked}

@@ -1,4 +1,4 @@
-ghost use Rattle.std.specs.Prelude.{◌≡◌, ◌<◌, ◌≤◌, ℕ, [], Some, Err, false, not, length, slice_get, option_copied, option_map, IfOk, IfErr, OnOk, OnErr};
+ghost use Rattle.std.specs.Prelude.{◌≡◌, ◌<◌, [], Some, Err, false, not, length, slice_get, option_copied, option_map, IfOk, IfErr, OnOk, OnErr};
 ghost use Rattle.std.specs.List.{AllByRecursion};
 ghost use Rattle.ft_base.specs.Members.{AreDifferent};
 ghost use Rattle.ft_base.specs.declared.limits.TheConstants.{HOST_LIMIT};

@@ -1,5 +1,5 @@
 //! A list of events.
-ghost use Rattle.std.specs.Prelude.{◌≡◌, ◌<◌, ◌++◌, ◌∷◌, [], length, IfOk, OnErr};
+ghost use Rattle.std.specs.Prelude.{◌≡◌, ◌<◌, IfOk, OnErr};
 ghost use Rattle.group_model.specs.Plain.{Group};
 ghost use Rattle.group_core.specs.Cores.{Stands};
 ghost use Rattle.group_core.specs.Running.{AlwaysAgree, GoesOn, HasRun, HasStopped, is_short, steps_of};

@@ -1,8 +1,6 @@
 //! A group in the tests: its core, what its last event sent, and what is told of its events.
 ghost use Rattle.std.specs.Prelude.{◌≡◌, ◌<◌, ◌∷◌, [], false, IfOk, OnOk};
 ghost use Rattle.std.specs.List.{AllByRecursion};
-ghost use Rattle.ft_base.specs.Members.{AreDifferent};
-ghost use Rattle.ft_base.specs.declared.limits.TheConstants.{HOST_LIMIT};
 ghost use Rattle.group_core.specs.Running.{is_short};
 ghost use Rattle.group_core.specs.Trying.{IsSome, MayCome};
 

@@ -15,7 +15,7 @@ use Rattle.group_stands.specs.Holding.{HeldOrder, HoldStands, orders_from, Nothi
 use Rattle.group_stands.specs.Stands.{LogStands, ReplicaStands}
 use Rattle.group_stands.specs.Telling.{LogsTell}
 use Rattle.failover_engine.specs.Catching as catching
-use Rattle.passive_dispatch.specs.Served.{Seen, CanServe, IsUnrun, IsServed, IsWritten, IsWrittenAs, shows_fault}
+use Rattle.passive_dispatch.specs.Served.{Seen, CanServe, shows_fault}
 use Rattle.passive_dispatch.specs.Served as passive
 use Rattle.active_sequencer.specs.Sequences.{IsSequenced}
 use Rattle.passive_dispatch.specs.declared.serving.Replied.{Replied}

@@ -24,7 +24,7 @@ use Rattle.ft_base.specs.Views.{is_passive}
 use Rattle.group_stands.specs.Going.{BlanksStand}
 use Rattle.group_stands.specs.Holding.{HeldOrder, HoldStands, NothingIsHeld}
 use Rattle.group_stands.specs.Stands.{LogStands, ReplicaStands}
-use Rattle.active_sequencer.specs.Orders.{answer_of, seen as orders_seen, Seen as OrdersSeen, IsOrdered, IsStopped, IsIgnoredWhere, CanOrder}
+use Rattle.active_sequencer.specs.Orders.{answer_of, Seen as OrdersSeen, IsOrdered, IsStopped, IsIgnoredWhere}
 use Rattle.active_sequencer.specs.Orders as sequencing
 use Rattle.active_sequencer.specs.declared.ordering.Ordered.{Ordered}
 use Rattle.active_sequencer.specs.declared.ordering.Ordered.TheVariants as orderings

@@ -1,5 +1,5 @@
 -- What a change of members leaves of a group's log.
-use Rattle.std.specs.Prelude.{◌≡◌, ℕ, ◌<◌, None}
+use Rattle.std.specs.Prelude.{◌≡◌, ℕ, None}
 use Rattle.ft_base.specs.Machine.{Machine}
 use Rattle.ft_base.specs.declared.views.Style.{Style}
 use Rattle.message_log.specs.Picture.{Picture as LogPicture}

@@ -11,7 +11,7 @@ use failover_engine::catch_up;
 use ft_base::{NoMemory, Request, Servant, Steps, Style};
 use ft_outside::Keeper;
 use ft_replica::Replica;
-use group_stands::{holdbacks_go_on, logs_tell, repeats_are_answered};
+use group_stands::{holdbacks_go_on, logs_tell};
 use message_log::Log;
 use passive_dispatch::{Arrival, Replied, Served};
 use std::alloc::Global;

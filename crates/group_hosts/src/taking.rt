@@ -1,5 +1,4 @@
 //! What a host that has caught up gives: a checkpoint, and an update.
-ghost use Rattle.std.specs.Prelude.{◌≡◌};
 ghost use Rattle.group_model.specs.declared.events.Event.TheVariants as events;
 ghost use Rattle.group_model.specs.Plain.{Common, Host};
 ghost use Rattle.group_model.specs.Transfers.{checkpoint_written, update_taken};

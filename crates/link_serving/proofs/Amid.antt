@@ -1,15 +1,13 @@
 -- In the midst of a link, and at its end.
-use Rattle.std.proofs.Common.{◌≡◌, ℕ, suc, ◌+◌, Bool, List, [], ◌∷◌, ◌++◌, length, take, Option, Some, None, Ok, refl, sym, subst, ap, inl, inr, ◌∙◌, append_assoc, append-nil, arith, length-append}
+use Rattle.std.proofs.Common.{◌≡◌, ℕ, ◌+◌, List, [], ◌∷◌, ◌++◌, length, take, Option, Some, None, Ok, refl, sym, subst, ap, inl, inr, ◌∙◌, append_assoc, append-nil, arith, length-append}
 use Rattle.std.specs.Prelude.{option_map}
 use Rattle.ft_outside.specs.Outside.{next_count}
-use Rattle.giop_messages.specs.declared.heads.TheConstants.{HEAD_LENGTH}
 use Rattle.giop_stream.specs.declared.sessions.SessionStep.{SessionStep}
 use Rattle.giop_stream.specs.declared.sessions.SessionStep.TheVariants as steps
 use Rattle.giop_stream.specs.declared.sessions.StreamEnd.{StreamEnd}
 use Rattle.giop_stream.specs.declared.sessions.StreamEnd.TheVariants as stream_ends
 use Rattle.giop_stream.specs.Parts.{Received}
 use Rattle.giop_stream.specs.Sessions.{AreAll, Goes, Serves, Serving, Session, ends_now, served_before, served_on, session}
-use Rattle.link_session.specs.Calls.{calling_of}
 use Rattle.link_session.specs.Exchanges.{Exchanging}
 use Rattle.link_session.specs.Loops as loops
 use Rattle.link_session.specs.Ports.{end_error}

@@ -1,12 +1,11 @@
 -- A reference that leads nowhere can be sent.
-use Rattle.std.proofs.Common.{◌≡◌, ℕ, ◌≤◌, ◌<◌, ◌^◌, List, [], length, refl, lit≤, lit<, arith}
+use Rattle.std.proofs.Common.{◌≤◌, ◌<◌, ◌^◌, [], length, refl, lit≤, lit<}
 use Rattle.std.proofs.lemmas.List.Elements.{All-nil}
 use Rattle.cdr_codec.specs.declared.orders.Order.{Order}
 use Rattle.cdr_codec.specs.declared.orders.Order.TheVariants.{Big, Little}
 use Rattle.iogr_reference.specs.declared.references.Ior.{Ior}
 use Rattle.iogr_reference.specs.declared.references.Profile.{Profile}
-use Rattle.iogr_reference.specs.Formats.{IsWritable, ior}
-use Rattle.host_server.specs.declared.limits.TheConstants.{PART_LIMIT}
+use Rattle.iogr_reference.specs.Formats.{IsWritable}
 use Rattle.host_server.specs.Replies.{IsForward}
 
 abbrev nil : Ior

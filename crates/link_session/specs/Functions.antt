@@ -5,7 +5,7 @@ use Rattle.giop_messages.specs.declared.messages.Message.{Message}
 use Rattle.link_session.specs.declared.calls.Calling.{Calling}
 use Rattle.link_session.specs.declared.calls.Calling.TheVariants.{Ask, Locate, Nothing}
 use Rattle.link_session.specs.Calls.{calling_of}
-use Rattle.link_session.specs.Exchanges.{Exchange, Exchanging, Look, Request}
+use Rattle.link_session.specs.Exchanges.{Exchanging, Look, Request}
 use Rattle.link_session.specs.Ports.{Port, Replying, called, locate_reply_of, reply_of, step, writes}
 use Rattle.link_session.specs.Serving.{IsAnswered}
 

@@ -5,7 +5,7 @@ use Rattle.giop_stream.specs.declared.sessions.SessionStep.{SessionStep}
 use Rattle.giop_stream.specs.declared.sessions.SessionStep.TheVariants as steps
 use Rattle.giop_stream.specs.declared.sessions.StreamEnd.{StreamEnd}
 use Rattle.giop_stream.specs.Parts.{Received}
-use Rattle.giop_stream.specs.Sessions.{AreAll, Goes, Serves, Serving, Session, session}
+use Rattle.giop_stream.specs.Sessions.{AreAll, Goes, Serves, Serving, session}
 use Rattle.link_session.specs.Exchanges.{Leads, leads_none, leads_on}
 
 -- what a step of the session leaves

@@ -1,4 +1,3 @@
-use Rattle.std.proofs.Common.{◌≡◌}
 use Rattle.group_core.proofs.Resumes.{one_more_blank}
 use Rattle.group_core.proofs.cores.blank_hosts.Goals as goal
 

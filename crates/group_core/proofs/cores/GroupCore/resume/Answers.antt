@@ -1,4 +1,4 @@
-use Rattle.std.proofs.Common.{◌≡◌, refl, ap}
+use Rattle.std.proofs.Common.{refl, ap}
 use Rattle.ft_base.specs.declared.views.View.{View}
 use Rattle.group_core.proofs.Resumes.{resumed_stands}
 use Rattle.group_core.proofs.cores.GroupCore.resume.Goals as goal
