@@ -1,0 +1,6 @@
+pub mod Doing
+pub mod Going
+pub mod Longer
+pub mod Looking
+pub mod May
+pub mod Taking
