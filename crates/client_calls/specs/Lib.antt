@@ -1,0 +1,3 @@
+pub mod Aims
+pub mod Calls
+pub mod Requests
