@@ -5,22 +5,19 @@ use Rattle.ft_base.specs.declared.memory.NoMemory.{NoMemory}
 use Rattle.ft_base.specs.declared.numbers.GroupId.{GroupId}
 use Rattle.ft_base.specs.declared.decisions.Stop.{Stop}
 use Rattle.ft_report.specs.declared.reports.ReportLine.{ReportLine}
-use Rattle.group_model.specs.declared.events.Event.{Event}
-use Rattle.group_model.specs.declared.events.GroupAnswer.{GroupAnswer}
-use Rattle.group_model.specs.declared.events.GroupAnswer.TheVariants as answers
 use Rattle.group_model.specs.declared.events.Out.{Out}
 use Rattle.group_model.specs.Sending.{brought}
 use Rattle.script_clients.specs.Clients.{Client}
 use Rattle.script_groups.specs.Acting.{MayCome}
-use Rattle.script_groups.specs.Groups.{ScriptGroup, Placed, group_numbered, placed, turn}
+use Rattle.script_groups.specs.Groups.{ScriptGroup, Placed, group_numbered, placed}
 use Rattle.script_groups.specs.Lists.{same_some}
-use Rattle.script_world.specs.Made.{has_turn}
 use Rattle.script_world.specs.Sound.{IsOnItsWay, MayComeTo}
-use Rattle.script_world.specs.World.{World, carried, is_deleted, with_event}
-use Rattle.script_world.specs.Worlds.{EventAt}
+use Rattle.script_world.specs.World.{World, carried, is_deleted}
 use Rattle.world_turns.specs.Answers.{Does}
 use Rattle.world_turns.specs.Doing.{does_behind}
-use Rattle.ft_world.specs.Delivering.{answered, asker_of, request_event, requested, turned_away}
+use Rattle.ft_world.specs.Delivering.{answered, asker_of, requested, turned_away}
+use Rattle.ft_world.specs.Requests.{Asking, HasAsked, ask}
+use Rattle.ft_world.specs.declared.asking.Said.{Said}
 use Rattle.ft_world.specs.declared.deliveries.Asker.{Asker}
 use Rattle.ft_world.specs.declared.deliveries.Arrival.{Arrival}
 use Rattle.world_turns.specs.Naming.{Deleted, There, group_with_number, naming_of}
@@ -38,15 +35,15 @@ module _ (w : World) (k : ℕ) (r : Arrival) (stop : Stop) (place : ℕ) (g : Sc
 
   asks_as : (asker : Asker) → option_map (asker_of r g) (slice_get w.clients r.client) ≡ Some asker →
       requested w k r stop (There (placed place g)) (slice_get w.clients r.client)
-      ≡ costing (turn g (request_event w r stop)).calls (answered (with_event w place g (request_event w r stop)) k asker (turn g (request_event w r stop)).answer)
+      ≡ costing (ask w (placed place g) r.host r.asked stop).calls (answered (ask w (placed place g) r.host r.asked stop).world k asker (ask w (placed place g) r.host r.asked stop).said)
   asks_as asker some = go (slice_get w.clients r.client) some
     where
       go : (o : Option Client) → option_map (asker_of r g) o ≡ Some asker →
           requested w k r stop (There (placed place g)) o
-          ≡ costing (turn g (request_event w r stop)).calls (answered (with_event w place g (request_event w r stop)) k asker (turn g (request_event w r stop)).answer)
+          ≡ costing (ask w (placed place g) r.host r.asked stop).calls (answered (ask w (placed place g) r.host r.asked stop).world k asker (ask w (placed place g) r.host r.asked stop).said)
       go None e = absurd cc
       go (Some c) e =
-          ap (λ (x : Asker). costing (turn g (request_event w r stop)).calls (answered (with_event w place g (request_event w r stop)) k x (turn g (request_event w r stop)).answer))
+          ap (λ (x : Asker). costing (ask w (placed place g) r.host r.asked stop).calls (answered (ask w (placed place g) r.host r.asked stop).world k x (ask w (placed place g) r.host r.asked stop).said))
           (same_some (asker_of r g c) asker e)
 
   -- of a group that was deleted
@@ -70,34 +67,23 @@ module _ (w : World) (k : ℕ) (r : Arrival) (stop : Stop) (place : ℕ) (g : Sc
       go None e = absurd cc
       go (Some c) e = (let same = same_some (asker_of r g c) asker e in (ap (λ (x : Asker). x.host) (sym same), ap (λ (x : Asker). x.group) (sym same)))
 
-  -- no memory for its event
-  pub short_request : (asker : Asker) → option_map (asker_of r g) (slice_get w.clients r.client) ≡ Some asker → (e : Event) → e ≡ request_event w r stop →
-      slice_get w.groups place ≡ Some g → (later : World) (before now : ℕ) → EventAt w place e answers.NoMemory later before now →
+  -- no memory for it
+  pub short_request : (asker : Asker) → option_map (asker_of r g) (slice_get w.clients r.client) ≡ Some asker → (before now : ℕ) →
+      now ≤ before + (ask w (placed place g) r.host r.asked stop).calls →
       now ≤ before + (requested w k r stop (There (placed place g)) (slice_get w.clients r.client)).calls
-  short_request asker some e is there later before now short =
-      let same : short.group ≡ g = same_some short.group g (sym short.there ∙ there) in
-      let calls : now ≤ before + (turn g (request_event w r stop)).calls =
-      subst (λ x. now ≤ before + (turn g x).calls) is (subst (λ (s : ScriptGroup). now ≤ before + (turn s e).calls) same short.calls) in
-      subst (λ (f : Effect). now ≤ before + f.calls) (sym (asks_as asker some)) (omega (arith, calls))
+  short_request asker some before now calls = subst (λ (f : Effect). now ≤ before + f.calls) (sym (asks_as asker some)) (omega (arith, calls))
 
-  -- it had its event, and what came of that was done
-  pub request_done : (asker : Asker) → option_map (asker_of r g) (slice_get w.clients r.client) ≡ Some asker → (e : Event) → e ≡ request_event w r stop →
-      slice_get w.groups place ≡ Some g → (answer : GroupAnswer) → (answer ≡ answers.NoMemory → ⊥) → (later new : World) (before between now : ℕ) → EventAt w place e answer later before between →
-      (result : Result (List ReportLine) NoMemory) → Does (answered later k asker answer) result new between now →
+  -- it was asked, and what came of that was done
+  pub request_done : (asker : Asker) → option_map (asker_of r g) (slice_get w.clients r.client) ≡ Some asker → (said : Said) (later new : World) (before between now : ℕ) →
+      HasAsked (ask w (placed place g) r.host r.asked stop) said later before between →
+      (result : Result (List ReportLine) NoMemory) → Does (answered later k asker said) result new between now →
       Does (requested w k r stop (There (placed place g)) (slice_get w.clients r.client)) result new before now
-  request_done asker some e is there answer made later new before between now had result done =
-      let it = has_turn w place e answer later before between made had in
-      let same : it.group ≡ g = same_some it.group g (sym it.there ∙ there) in
-      let later_is : later ≡ with_event w place g (request_event w r stop) =
-      it.is ∙ ap (λ (s : ScriptGroup). with_event w place s e) same ∙ ap (with_event w place g) is in
-      let answer_is : (turn g (request_event w r stop)).answer ≡ answer =
-      ap (λ x. (turn g x).answer) (sym is) ∙ ap (λ (s : ScriptGroup). (turn s e).answer) (sym same) ∙ it.told in
-      let counted : between ≡ before + (turn g (request_event w r stop)).calls =
-      it.calls ∙ ap (λ (s : ScriptGroup). before + (turn s e).calls) same ∙ ap (λ x. before + (turn g x).calls) is in
+  request_done asker some said later new before between now had result done =
+      let a : Asking = ask w (placed place g) r.host r.asked stop in
       subst (λ (f : Effect). Does f result new before now) (sym (asks_as asker some))
-      (does_behind (turn g (request_event w r stop)).calls (answered (with_event w place g (request_event w r stop)) k asker (turn g (request_event w r stop)).answer) result new before between now counted
-      (subst (λ (b : GroupAnswer). Does (answered (with_event w place g (request_event w r stop)) k asker b) result new between now) (sym answer_is)
-      (subst (λ (v : World). Does (answered v k asker answer) result new between now) later_is done)))
+      (does_behind a.calls (answered a.world k asker a.said) result new before between now had.calls
+      (subst (λ (s : Said). Does (answered a.world k asker s) result new between now) had.said
+      (subst (λ (v : World). Does (answered v k asker said) result new between now) had.world done)))
 
 -- ---- a group that is there
 

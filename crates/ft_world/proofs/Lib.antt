@@ -2,10 +2,15 @@ pub mod PlaceLemmas
 pub mod ArriveLemmas
 pub mod CallLemmas
 pub mod RetryingLemmas
+pub mod RequestLemmas
+pub mod TurnLemmas
 pub mod LinkLemmas
 pub mod ReplyLemmas
 pub mod PortLemmas
 pub mod LaterLemmas
+pub mod MadeLemmas
 pub mod KeepingLemmas
+pub mod ComingLemmas
 pub mod KeptLemmas
 pub mod JournalLemmas
+pub mod AnswerLemmas

@@ -1,30 +1,15 @@
 -- Elements of lists by their places, and groups by what they are named.
-use Rattle.std.proofs.Common.{◌≡◌, ℕ, zero, suc, ◌+◌, arith, Bool, true, false, List, [], ◌∷◌, Option, Some, None, refl, sym, ap, subst}
+use Rattle.std.proofs.Common.{◌≡◌, ℕ, suc, ◌+◌, arith, Bool, true, false, List, [], ◌∷◌, Option, Some, None, refl, sym, ap, subst}
 use Rattle.std.specs.Prelude.{◌==◌, ◌-◌, if◌then◌else◌, option_map, slice_get}
-use Rattle.std.specs.List.{AllByRecursion}
 use Rattle.script_groups.specs.Groups.{ScriptGroup, Placed, found, group_named, group_numbered, placed}
 use Rattle.script_groups.specs.Lists.{same_some}
 use Rattle.script_world.specs.World.{World, is_deleted}
 use Rattle.world_turns.specs.Naming.{Naming, NeverMade, Deleted, There, group_called, group_with_number, naming_of, there_only}
 
--- whatever holds of all elements holds of this one
-abbrev pub IsOf : {A : Type 0} → List A → Option A → Type 1
-IsOf {A} xs None = Unit {1}
-IsOf {A} xs (Some x) = (P : A → Type 0) → AllByRecursion P xs → P x
-
 -- it stands at its place
 abbrev pub IsOneOf : {A : Type 0} → List A → Option (Placed A) → Type 0
 IsOneOf xs None = Unit {0}
 IsOneOf {A} xs (Some p) = slice_get xs p.place ≡ Some p.value
-
-pub got : {A : Type 0} (xs : List A) (i : ℕ) → IsOf xs (slice_get xs i)
-got [] i = tt
-got (x ∷ xs) zero = λ P all. all.0
-got {A = A} (x ∷ xs) (suc i) = further (slice_get xs i) (got xs i)
-  where
-    further : (o : Option A) → IsOf xs o → IsOf (x ∷ xs) o
-    further None is = tt
-    further (Some y) is = λ P all. is P all.1
 
 pub found_at : {A : Type 0} (test : A → Bool) (i : ℕ) (xs : List A) (p : Placed A) → found test i xs ≡ Some p →
     (k : ℕ) × (p.place ≡ i + k) × (slice_get xs k ≡ Some p.value)

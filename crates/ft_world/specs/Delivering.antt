@@ -1,6 +1,5 @@
 -- `deliver K`: a message comes to its host or to its client.
 use Rattle.std.specs.Prelude.{ℕ, ◌+◌, if◌then◌else◌, List, [], ◌∷◌, length, slice_get, Option, Some, None}
-use Rattle.ft_base.specs.Machine.{gives_of}
 use Rattle.ft_base.specs.declared.decisions.Stop.{Stop}
 use Rattle.ft_base.specs.declared.numbers.GroupId.{GroupId}
 use Rattle.ft_base.specs.declared.numbers.HostNo.{HostNo}
@@ -11,10 +10,7 @@ use Rattle.client_retry.specs.declared.answers.Heard.TheVariants as heards
 use Rattle.fault_script.specs.declared.lines.LineFault.TheVariants.{Unknown}
 use Rattle.ft_report.specs.declared.reports.ReportLine.{ReportLine}
 use Rattle.ft_report.specs.declared.reports.ReportLine.TheVariants as reports
-use Rattle.group_model.specs.Asking.{signature_asked}
 use Rattle.group_model.specs.declared.asking.Asked.{Asked}
-use Rattle.group_model.specs.declared.events.Event.{Event}
-use Rattle.group_model.specs.declared.events.Event.TheVariants as events
 use Rattle.group_model.specs.declared.events.GroupAnswer.{GroupAnswer}
 use Rattle.group_model.specs.declared.events.GroupAnswer.TheVariants as group_answers
 use Rattle.group_model.specs.declared.events.Inner.{Inner}
@@ -22,11 +18,12 @@ use Rattle.group_model.specs.declared.events.Inner.TheVariants as inners
 use Rattle.group_model.specs.declared.events.Out.{Out}
 use Rattle.group_model.specs.Sending.{brought}
 use Rattle.iogr_reference.specs.declared.references.GroupRef.{GroupRef}
+use Rattle.iogr_reference.specs.declared.references.Ior.{Ior}
 use Rattle.sys_faults.specs.declared.answers.Answer.{Answer}
 use Rattle.sys_faults.specs.declared.answers.Answer.TheVariants as answers
 use Rattle.script_clients.specs.declared.answers.Attempt.{Attempt}
 use Rattle.script_clients.specs.Clients.{Client, hearing}
-use Rattle.script_groups.specs.Groups.{ScriptGroup, Placed, group_numbered, machine_of, turn}
+use Rattle.script_groups.specs.Groups.{ScriptGroup, Placed, group_numbered, turn}
 use Rattle.script_groups.specs.References.{reference_at}
 use Rattle.ft_world.specs.declared.deliveries.Asker.{Asker}
 use Rattle.ft_world.specs.declared.deliveries.Arrival.{Arrival}
@@ -35,11 +32,13 @@ use Rattle.script_world.specs.declared.messages.Message.TheVariants as messages
 use Rattle.script_world.specs.declared.messages.Reply.{Reply}
 use Rattle.ft_world.specs.Clients.{does}
 use Rattle.world_management.specs.Hosts.{stopped}
-use Rattle.ft_world.specs.Links.{port_answer}
+use Rattle.ft_world.specs.Requests.{ask, port_answer}
+use Rattle.ft_world.specs.declared.asking.Said.{Said}
+use Rattle.ft_world.specs.declared.asking.Said.TheVariants as saids
 use Rattle.ft_world.specs.Printed.{shown}
 use Rattle.message_sizes.specs.Sizes.{answer_size}
 use Rattle.world_turns.specs.Sending.{all_sent, sent_lines}
-use Rattle.script_world.specs.World.{World, counted, host_clock, is_up, message_numbered, with_client, with_event, with_messages}
+use Rattle.script_world.specs.World.{World, counted, is_up, message_numbered, with_client, with_event, with_messages}
 use Rattle.host_server.specs.Replies.{no_group}
 use Rattle.world_monitors.specs.Arriving.{ping_comes, pong_comes}
 use Rattle.world_turns.specs.Naming.{Naming, NeverMade, Deleted, There, group_with_number, late_line}
@@ -61,9 +60,6 @@ asked_by a = record {
 abbrev pub arrival_of : ℕ → HostNo → Attempt → Arrival
 arrival_of client host a = record { client = client; host = host; group = a.group; id = a.id; asked = asked_by a }
 
-abbrev pub request_event : World → Arrival → Stop → Event
-request_event w r stop = events.Request r.host (record { 0 = host_clock w r.host.0 }) r.asked stop
-
 abbrev pub asker_of : Arrival → ScriptGroup → Client → Asker
 asker_of r g c = record {
   client = r.client;
@@ -72,41 +68,35 @@ asker_of r g c = record {
   id = r.id;
   group = g.id;
   group_name = g.name;
-  gives = gives_of (signature_asked (machine_of g) r.asked.op);
 }
 
-abbrev pub reply_to : Asker → Answer → Reply
-reply_to a answer =
-    record { client = a.client; group = a.group; host = a.host; id = a.id; answer = answer; gives = a.gives }
+-- of an operation that gives this
+abbrev pub reply_to : Asker → Option Par → Answer → Reply
+reply_to a gives answer =
+    record { client = a.client; group = a.group; host = a.host; id = a.id; answer = answer; gives = gives }
 
--- the bytes of its reply, as it would go over a link
-abbrev pub reply_bytes : Option (Placed ScriptGroup) → Option Par → Answer → ℕ
-reply_bytes None gives answer = 0
-reply_bytes (Some g) gives answer = answer_size (port_answer g.value gives answer)
+-- a reply is sent; its bytes are those that it would have on a link
+abbrev pub replied : World → Asker → Option Par → Option Ior → Answer → World
+replied w a gives redirect answer =
+    counted (with_messages w (messages.Reply (reply_to a gives answer) ∷ [])) (answer_size (port_answer gives redirect answer))
 
--- a reply is sent
-abbrev pub replied : World → Asker → Answer → World
-replied w a answer =
-    counted (with_messages w (messages.Reply (reply_to a answer) ∷ [])) (reply_bytes (group_numbered w.groups a.group.0) a.gives answer)
-
--- what the host made of it: it replies and sends its orders, or it stops, or it is down
-abbrev pub answered : World → ℕ → Asker → GroupAnswer → Effect
-answered w k a (group_answers.Reply decision (Some answer) out) =
-    says (all_sent (replied w a answer) a.group out)
-    (reports.At a.host a.group_name decision
-    ∷ reports.Reply (length w.messages + 1) a.host a.client_name a.id (shown a.group_name a.gives answer)
-    ∷ sent_lines (length w.messages + 2) a.group_name a.host out)
-answered w k a (group_answers.Reply decision None out) =
+-- by what the host says: it replies and then sends its orders, or it stopped, or it is down
+abbrev pub answered : World → ℕ → Asker → Said → Effect
+answered w k a (saids.Reply r) =
+    says (all_sent (replied w a r.gives r.redirect r.answer) a.group r.out)
+    (reports.At a.host a.group_name r.decision
+    ∷ reports.Reply (length w.messages + 1) a.host a.client_name a.id (shown a.group_name r.gives r.answer)
+    ∷ sent_lines (length w.messages + 2) a.group_name a.host r.out)
+answered w k a (saids.Stopped decision) =
     says (stopped w a.host) (reports.At a.host a.group_name decision ∷ reports.Down a.host ∷ [])
-answered w k a group_answers.Down = says w (reports.Lost k ∷ [])
-answered w k a other = says w []
+answered w k a saids.Down = says w (reports.Lost k ∷ [])
 
 -- a request for a group that was deleted: a host that is up has no such object
 abbrev pub turned_away : World → ℕ → Asker → Effect
 turned_away w k a =
     if is_up w a.host.0 then
-    says (replied w a (answers.System no_group))
-    (reports.NoGroup a.host ∷ reports.Reply (length w.messages + 1) a.host a.client_name a.id (shown a.group_name a.gives (answers.System no_group)) ∷ [])
+    says (replied w a None None (answers.System no_group))
+    (reports.NoGroup a.host ∷ reports.Reply (length w.messages + 1) a.host a.client_name a.id (shown a.group_name None (answers.System no_group)) ∷ [])
     else says w (reports.Lost k ∷ [])
 
 -- to a group, from a client
@@ -116,8 +106,7 @@ requested w k r stop (Deleted g) None = says w []
 requested w k r stop (Deleted g) (Some c) = turned_away w k (asker_of r g.value c)
 requested w k r stop (There g) None = says w []
 requested w k r stop (There g) (Some c) =
-    let e = request_event w r stop in
-    costing (turn g.value e).calls (answered (with_event w g.place g.value e) k (asker_of r g.value c) (turn g.value e).answer)
+    let a = ask w g r.host r.asked stop in costing a.calls (answered a.world k (asker_of r g.value c) a.said)
 
 -- ---- a reply comes to its client
 

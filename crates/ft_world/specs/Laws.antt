@@ -13,17 +13,24 @@ use Rattle.group_model.specs.Decisions.{known_then}
 use Rattle.group_model.specs.Views.{newest}
 use Rattle.script_groups.specs.Groups.{ScriptGroup, acted, common_of, entries_caught_up, entries_run, group_of, orders_applied, reply_of, servant_calls, turn, with_more}
 use Rattle.script_world.specs.World.{World, empty}
-use Rattle.ft_world.specs.Acts.{act}
+use Rattle.ft_world.specs.Acts.{act, act_first}
+use Rattle.world_turns.specs.Answers.{calls_of}
 use Rattle.world_turns.specs.Turns.{Turn, Goes, Refused}
 
--- the world after some lines, up to the first that is refused
-abbrev pub or_stay : World → Turn → (World → World) → World
-or_stay w (Goes next report calls) rest = rest next
-or_stay w (Refused why calls) rest = w
+-- what a line's work makes of a world, also where a total refuses the line then
+abbrev pub worked : World → Turn → World
+worked w (Goes next report calls) = next
+worked w (Refused why calls) = w
 
+-- lines end at the first that is refused
+abbrev pub or_end : {A : Type 0} → Turn → A → A → A
+or_end (Goes next report calls) rest end = rest
+or_end (Refused why calls) rest end = end
+
+-- the world after some lines, up to the first that is refused, and that one's work
 unfoldable pub world_after : World → List Line → World
 world_after w [] = w
-world_after w (line ∷ lines) = or_stay w (act w line) (λ next. world_after next lines)
+world_after w (line ∷ lines) = let next = worked w (act_first w line) in or_end (act w line) (world_after next lines) next
 
 -- At most once: each request with a key was accepted before its expiration, and a client's retention id again
 -- only once the expiration of its earlier acceptance had come.
@@ -56,14 +63,11 @@ ScriptsKeepEntries = (w : World) (script : List Line) → AllLater KeepsEntries 
 
 -- ---- servant calls
 
--- of the lines that were acted
-abbrev pub or_no_more : Turn → (World → ℕ) → ℕ
-or_no_more (Goes next report calls) rest = calls + rest next
-or_no_more (Refused why calls) rest = 0
-
+-- of some lines, up to the first that is refused, and of that one
 unfoldable pub calls_from : World → List Line → ℕ
 calls_from w [] = 0
-calls_from w (line ∷ lines) = or_no_more (act w line) (λ next. calls_from next lines)
+calls_from w (line ∷ lines) =
+    calls_of (act w line) + or_end (act w line) (calls_from (worked w (act_first w line)) lines) 0
 
 abbrev pub calls_of_groups : List ScriptGroup → ℕ
 calls_of_groups gs = sum_by servant_calls gs

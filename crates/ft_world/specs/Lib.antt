@@ -1,9 +1,12 @@
 pub mod Printed
 pub mod Clients
 pub mod Retrying
+pub mod Requests
 pub mod Delivering
 pub mod Links
+pub mod Passes
 pub mod Lines
 pub mod Acts
 pub mod Serving
 pub mod Laws
+pub mod DeadArms

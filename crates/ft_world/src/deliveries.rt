@@ -3,25 +3,22 @@ ghost use Rattle.std.specs.Prelude.{◌≡◌, ℕ, ◌+◌, ◌<◌, ◌≤◌,
 ghost use Rattle.std.specs.List.{AllByRecursion};
 ghost use Rattle.ft_base.specs.declared.limits.TheConstants.{HOST_LIMIT};
 ghost use Rattle.group_model.specs.Agreeing.{IsShortAsked};
-ghost use Rattle.group_model.specs.Sending.{brought, sent_by};
+ghost use Rattle.group_model.specs.Sending.{brought};
 ghost use Rattle.group_model.specs.declared.events.Out.{Out as AnOut};
 ghost use Rattle.script_groups.specs.Groups.{ScriptGroup as Group, group_numbered, placed};
 ghost use Rattle.world_turns.specs.Answers.{Acts, Does};
 ghost use Rattle.message_sizes.specs.Sizes.{answer_size};
-ghost use Rattle.script_groups.specs.References.{ior_at};
-ghost use Rattle.ft_world.specs.Links.{forward_by, port_answer};
-ghost use Rattle.ft_world.specs.Serving.{AreInForm, IsInForm};
+ghost use Rattle.ft_world.specs.Requests.{CanBeSaid, CanBeSent, CanRedirect, IsInForm, forward_by, port_answer};
 ghost use Rattle.ft_world.specs.Delivering.{answered, arrival_of, asked_by, asker_of, brought_to, came, deliver_line, heard_by, heard_of, held, index_of, redirected_to, replied, requested, turned_away};
 ghost use Rattle.host_server.specs.Replies.{no_group};
 ghost use Rattle.ft_base.specs.declared.decisions.Stop.{Stop as AStop};
 ghost use Rattle.script_groups.specs.Acting.{MayCome};
 ghost use Rattle.world_turns.specs.Naming.{Deleted, There, group_with_number};
 ghost use Rattle.ft_world.specs.Printed.{shown};
-ghost use Rattle.script_world.specs.World.{carried};
 ghost use Rattle.script_world.specs.Sound.{IsKeptWorld, IsOnItsWay};
 
+use crate::asking::{HostReply, Said, ask};
 use crate::calls::does;
-use crate::links::gives_asked;
 use crate::printing::shown;
 use cdr_codec::{Order, Raw};
 use client_retry::Heard;
@@ -29,12 +26,11 @@ use fault_script::LineFault;
 use ft_base::{Decision, GroupId, HostNo, Name, NoMemory, Par, Request, Steps, Stop, Version};
 use ft_report::{ReportLine, ReportLines, ReportOutcome};
 use group_core::event_of;
-use group_model::{Asked, Event, GroupAnswer, Inner, Out, OutList};
+use group_model::{Asked, GroupAnswer, Inner, Out};
 use host_server::no_group;
-use link_session::view_references_can_be_sent;
+use iogr_reference::Ior;
 use message_sizes::{fault_size, forward_size, outcome_size};
 use script_clients::Attempt;
-use script_groups::{answers_are_in_form, shown_are_views};
 use script_world::{Message, Reply, World, copy_out};
 use std::alloc::Global;
 use std::sync::ledger::Ledger;
@@ -42,7 +38,7 @@ use sys_faults::Answer;
 use world_monitors::{ping_comes, pong_comes};
 use world_turns::{Named, group_with_number, late_line, one_line, send_all};
 
-/// Whom a request is from, where it came, and how its reply is printed.
+/// Whom a request is from, and where it came.
 #[derive(Drop)]
 pub struct Asker {
     /// The place of the client among all clients.
@@ -53,8 +49,6 @@ pub struct Asker {
     pub id: u32,
     pub group: GroupId,
     pub group_name: Name,
-    /// What the request's operation gives.
-    pub gives: Option<Par>,
 }
 
 /// A client's request, as it arrives at a host.
@@ -199,15 +193,16 @@ fn answered_report(
     asker: &Asker,
     decision: Decision,
     message: u64,
+    gives: Option<Par>,
     answer: &Answer,
 ) -> Result<ReportLines, NoMemory>
     ensures { IfOk result (λ report. report ≡
         ReportLine.At asker.now.host asker.now.group_name decision
-        ∷ ReportLine.Reply message asker.now.host asker.now.client_name asker.now.id (shown asker.now.group_name asker.now.gives answer.now) ∷ []) }
+        ∷ ReportLine.Reply message asker.now.host asker.now.client_name asker.now.id (shown asker.now.group_name gives answer.now) ∷ []) }
 {
     let mut report = ReportLines::new(alloc);
     report.push_at(asker.host, &asker.group_name, decision)?;
-    let shown = shown(alloc, &asker.group_name, asker.gives, answer)?;
+    let shown = shown(alloc, &asker.group_name, gives, answer)?;
     report.push_reply(message, asker.host, &asker.client_name, asker.id, &shown)?;
     Ok(report)
 }
@@ -222,82 +217,76 @@ fn stopped_report(alloc: Global, asker: &Asker, decision: Decision) -> Result<Re
     Ok(report)
 }
 
-// The bytes of a reply by which a client is turned to the view of this version of the group at this place.
-fn redirect_size(world: &World, place: usize, version: Version) -> Result<u128, NoMemory>
-    requires within { place < length world.now.groups }
-    requires kept { IsKeptWorld world.now }
-    ensures { (g : Group) (perm : Bool) → slice_get world.now.groups place ≡ Some g →
-        IfOk result (λ size. size ≡ answer_size (forward_by perm (ior_at g version.0))) }
+// The bytes of a reply by which a client is turned to this reference, or told that there is no such object.
+fn redirect_size(alloc: Global, redirect: &Option<Ior>) -> Result<u128, NoMemory>
+    requires { CanRedirect redirect.now }
+    ensures { (perm : Bool) → IfOk result (λ size. size ≡ answer_size (forward_by perm redirect.now)) }
 {
-    view_references_can_be_sent();
-    shown_are_views();
-    let group = world.group(place);
-    group.is_sound();
-    match group.ior_at(world.alloc(), version, world.ports())? {
-        Some(body) => forward_size(world.alloc(), &body),
+    match redirect {
+        Some(body) => forward_size(alloc, body),
         None => Ok(fault_size(&no_group())),
     }
 }
 
-// The bytes of a reply of the group at this place, as it would go over a link.
+// The bytes of a reply, as it would go over a link.
 fn reply_size(
-    world: &World,
-    place: usize,
+    alloc: Global,
     gives: Option<Par>,
+    redirect: &Option<Ior>,
     answer: &Answer,
 ) -> Result<u128, NoMemory>
-    requires within { place < length world.now.groups }
-    requires kept { IsKeptWorld world.now }
     requires form { IsInForm gives answer.now }
-    ensures { (g : Group) → slice_get world.now.groups place ≡ Some g → IfOk result (λ size. size ≡ answer_size (port_answer g gives answer.now)) }
+    requires redirect { CanRedirect redirect.now }
+    ensures { IfOk result (λ size. size ≡ answer_size (port_answer gives redirect.now answer.now)) }
 {
     match answer {
         Answer::Done(outcome) => Ok(outcome_size(gives, outcome)),
         Answer::System(fault) => Ok(fault_size(fault)),
-        Answer::Forward(version) => redirect_size(world, place, *version),
-        Answer::ForwardPerm(version) => redirect_size(world, place, *version),
+        Answer::Forward(_) | Answer::ForwardPerm(_) => redirect_size(alloc, redirect),
     }
 }
 
 // Sends a reply.
 #[inline(always)]
-fn send_reply(world: &mut World, asker: &Asker, answer: Answer) -> Result<(), NoMemory>
-    requires kept { IsKeptWorld world.old }
-    requires form { IsInForm asker.now.gives answer }
-    ensures { OnOk result (world.new ≡ replied world.old asker.now answer) }
+fn send_reply(
+    world: &mut World,
+    asker: &Asker,
+    gives: Option<Par>,
+    redirect: &Option<Ior>,
+    answer: Answer,
+) -> Result<(), NoMemory>
+    requires form { IsInForm gives answer }
+    requires redirect { CanRedirect redirect.now }
+    ensures { OnOk result (world.new ≡ replied world.old asker.now gives redirect.now answer) }
 {
-    let bytes = match world.numbered_place(asker.group) {
-        Some(place) => reply_size(world, place, asker.gives, &answer)?,
-        None => 0,
-    };
+    let bytes = reply_size(world.alloc(), gives, redirect, &answer)?;
     world.send(Message::Reply(Reply {
         client: asker.client,
         group: asker.group,
         host: asker.host,
         id: asker.id,
         answer,
-        gives: asker.gives,
+        gives,
     }))?;
     world.count_bytes(bytes);
     Ok(())
 }
 
 // The reply is sent, and then what goes to other members.
-fn reply(
-    world: &mut World,
-    asker: Asker,
-    decision: Decision,
-    answer: Answer,
-    out: OutList,
-) -> Result<ReportLines, NoMemory>
-    requires kept { IsKeptWorld world.old }
-    requires form { IsInForm asker.gives answer }
-    requires sent { AllByRecursion (λ o. IsOnItsWay world.old.groups (carried asker.group o)) out }
-    ensures { (k calls : ℕ) → Does (answered world.old k asker (GroupAnswer.Reply decision (Some answer) out)) result world.new calls calls }
+fn reply(world: &mut World, asker: Asker, reply: HostReply) -> Result<ReportLines, NoMemory>
+    requires { CanBeSent world.old.groups asker.group reply }
+    ensures { (k calls : ℕ) → Does (answered world.old k asker (Said.Reply reply)) result world.new calls calls }
 {
     let number = world.message_count() as u64 + 1;
-    let mut report = answered_report(world.alloc(), &asker, decision, number, &answer)?;
-    send_reply(world, &asker, answer)?;
+    let HostReply {
+        decision,
+        answer,
+        gives,
+        redirect,
+        out,
+    } = reply;
+    let mut report = answered_report(world.alloc(), &asker, decision, number, gives, &answer)?;
+    send_reply(world, &asker, gives, &redirect, answer)?;
     send_all(
         world,
         &mut report,
@@ -318,38 +307,30 @@ fn stop<L: Ledger>(
 ) -> Result<ReportLines, NoMemory>
     requires host { asker.host.0 < HOST_LIMIT }
     requires kept { IsKeptWorld world.old }
-    ensures { (k : ℕ) (out : List AnOut) → Does (answered world.old k asker (GroupAnswer.Reply decision None out)) result world.new steps.old steps.new }
+    ensures { (k : ℕ) → Does (answered world.old k asker (Said.Stopped decision)) result world.new steps.old steps.new }
 {
     let report = stopped_report(world.alloc(), &asker, decision)?;
     world.set_power(asker.host, false, steps)?;
     Ok(report)
 }
 
-// What the host made of a request.
+// By what the host says.
 fn answered<L: Ledger>(
     world: &mut World,
     number: u64,
     asker: Asker,
-    answer: GroupAnswer,
+    said: Said,
     steps: &mut Steps<L>,
 ) -> Result<ReportLines, NoMemory>
     requires kept { IsKeptWorld world.old }
     requires host { asker.host.0 < HOST_LIMIT }
-    requires form { AreInForm asker.gives answer }
-    requires sent { AllByRecursion (λ o. IsOnItsWay world.old.groups (carried asker.group o)) (sent_by answer) }
-    ensures { Does (answered world.old number asker answer) result world.new steps.old steps.new }
+    requires can { CanBeSaid world.old.groups asker.group said }
+    ensures { Does (answered world.old number asker said) result world.new steps.old steps.new }
 {
-    match answer {
-        GroupAnswer::Reply {
-            decision,
-            answer,
-            out,
-        } => match answer {
-            Some(answer) => reply(world, asker, decision, answer, out),
-            None => stop(world, asker, decision, steps),
-        },
-        GroupAnswer::Down => one_line(world.alloc(), ReportLine::Lost { message: number }),
-        _ => Ok(ReportLines::new(world.alloc())),
+    match said {
+        Said::Reply(said) => reply(world, asker, said),
+        Said::Stopped(decision) => stop(world, asker, decision, steps),
+        Said::Down => one_line(world.alloc(), ReportLine::Lost { message: number }),
     }
 }
 
@@ -375,7 +356,6 @@ fn who_asks(world: &World, arrival: &Arrival, place: usize) -> Result<Option<Ask
         id: arrival.id,
         group: group.id(),
         group_name,
-        gives: gives_asked(world, place, &arrival.asked.op),
     }))
 }
 
@@ -383,7 +363,7 @@ fn who_asks(world: &World, arrival: &Arrival, place: usize) -> Result<Option<Ask
 fn turned_away_report(alloc: Global, asker: &Asker, message: u64) -> Result<ReportLines, NoMemory>
     ensures { IfOk result (λ report. report ≡
         ReportLine.NoGroup asker.now.host
-        ∷ ReportLine.Reply message asker.now.host asker.now.client_name asker.now.id (shown asker.now.group_name asker.now.gives (Answer.System no_group)) ∷ []) }
+        ∷ ReportLine.Reply message asker.now.host asker.now.client_name asker.now.id (shown asker.now.group_name None (Answer.System no_group)) ∷ []) }
 {
     let mut report = ReportLines::new(alloc);
     report.push(ReportLine::NoGroup { host: asker.host })?;
@@ -402,7 +382,7 @@ fn turn_away(world: &mut World, number: u64, asker: Asker) -> Result<ReportLines
     }
     let message = world.message_count() as u64 + 1;
     let report = turned_away_report(world.alloc(), &asker, message)?;
-    send_reply(world, &asker, Answer::System(no_group()))?;
+    send_reply(world, &asker, None, &None, Answer::System(no_group()))?;
     Ok(report)
 }
 
@@ -441,21 +421,12 @@ fn arrive_at<L: Ledger>(
         Does (requested world.old number arrival stop (There (placed place g)) (slice_get world.old.clients arrival.client))
         result world.new steps.old steps.new }
 {
-    let alloc = world.alloc();
-    answers_are_in_form();
-    world.group(place).is_sound();
     let Some(asker) = who_asks(world, &arrival, place)? else {
-        return Ok(ReportLines::new(alloc));
+        return Ok(ReportLines::new(world.alloc()));
     };
-    let event = Event::Request {
-        host: arrival.host,
-        clock: world.host_clock(arrival.host),
-        asked: arrival.asked,
-        stop,
-    };
-    match world.event_at(place, event, steps) {
-        GroupAnswer::NoMemory => Err(NoMemory),
-        answer => answered(world, number, asker, answer, steps),
+    match ask(world, place, arrival.host, arrival.asked, stop, steps) {
+        Ok(said) => answered(world, number, asker, said, steps),
+        Err(NoMemory) => Err(NoMemory),
     }
 }
 

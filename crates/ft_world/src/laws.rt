@@ -1,4 +1,5 @@
 //! Laws over runs of scripts. The functions do nothing: their contracts are facts.
+ghost use Rattle.ft_world.specs.DeadArms.{AnswersFit, ScriptsNameMade};
 ghost use Rattle.ft_world.specs.Laws.{DeposedDoNothing, ScriptsAcceptOnce, ScriptsKeepEntries, ServantsAreCalled};
 
 use group_model::deposed_append_nothing;
@@ -37,3 +38,11 @@ pub fn deposed_do_nothing()
     deposed_append_nothing();
     groups_go_on();
 }
+
+/// No arm of the world's definitions for a group, a client or an answer that can't be there is ever taken. In every world
+/// that lines of a script make, what was sent names a group and a client that were made, and so does each reference that a
+/// client goes by. Whatever events a group has, it answers each in one of the ways in which the world takes it.
+pub fn scripts_take_no_dead_arm()
+    ensures made { ScriptsNameMade }
+    ensures answered { AnswersFit }
+{}

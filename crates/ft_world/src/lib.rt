@@ -26,14 +26,18 @@
 #![tactic(auto)]
 
 mod acts;
+mod asking;
 mod calls;
 mod deliveries;
 mod laws;
 mod links;
+mod ports;
 mod printing;
 mod retrying;
 
 pub use acts::act;
 pub use laws::{
-    deposed_do_nothing, scripts_accept_once, scripts_keep_entries, servants_are_called,
+    deposed_do_nothing, scripts_accept_once, scripts_keep_entries, scripts_take_no_dead_arm,
+    servants_are_called,
 };
+pub use ports::{Printed, WorldPass, WorldPort};
