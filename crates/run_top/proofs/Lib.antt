@@ -2,3 +2,4 @@ pub mod PlayingLemmas
 pub mod WordLemmas
 pub mod MadeLemmas
 pub mod EndLemmas
+pub mod LineLemmas

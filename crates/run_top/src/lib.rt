@@ -18,6 +18,8 @@ mod playing;
 mod runs;
 mod words;
 
-pub use laws::made_runs_are_runs;
+pub use laws::{
+    made_runs_are_runs, runs_accept_once, runs_are_of_lines, runs_call_servants, runs_keep_entries,
+};
 pub use playing::Script;
 pub use runs::ftc_run;
