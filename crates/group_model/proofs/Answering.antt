@@ -1,10 +1,10 @@
 -- A request is answered in the form that its operation gives; and a host that stops is told by its answer.
-use Rattle.std.proofs.Common.{◌≡◌, ℕ, zero, suc, ◌<◌, ◌&&◌, ◌||◌, max, Bool, true, false, List, [], ◌∷◌, ◌++◌, length, Option, Some, None, Result, Ok, Err, refl, sym, subst, arith}
+use Rattle.std.proofs.Common.{◌≡◌, ℕ, zero, suc, ◌<◌, ◌&&◌, ◌||◌, max, Bool, true, false, List, [], ◌∷◌, ◌++◌, length, Option, Some, None, Result, Ok, Err, refl, sym, subst, ◌∙◌, arith}
 use Rattle.std.specs.Prelude.{nat_lt, nat_le, nat_eq, slice_get}
-use Rattle.std.proofs.lemmas.Bool.Decides.{nat_tests}
+use Rattle.std.proofs.lemmas.Bool.Decides.{nat_tests, Decides-int_eq}
 use Rattle.std.proofs.lemmas.Slice.Eq.{bytes_eq-Decides}
 use Rattle.ft_base.specs.Machine.{Machine, Fits, IsGivenAs}
-use Rattle.ft_base.specs.Journal.{Entry, AllFit, held, reply_at}
+use Rattle.ft_base.specs.Journal.{Entry, AllFit, held, is_held, is_held_by, last_place, later_or, reply_at}
 use Rattle.ft_base.specs.Laws.{Stays, Gives, AllGoOnFitting, RepliesAreGiven}
 use Rattle.ft_base.specs.declared.decisions.Decision.{Decision}
 use Rattle.ft_base.specs.declared.decisions.Stop.{Stop}
@@ -29,7 +29,7 @@ use Rattle.group_model.specs.Turns.{Turn, unchanged}
 use Rattle.group_model.specs.Asking.{asked_version, signature_asked}
 use Rattle.group_model.specs.Views.{AreKept, StillHas, newest}
 use Rattle.group_model.specs.Decisions.{refused_by_view, request_with, args_for, request_named, known_then, looks_up, request_in}
-use Rattle.ft_base.specs.Admissions.{admission, by_key, by_room, against_held, against_entry, says_same}
+use Rattle.ft_base.specs.Admissions.{admission, by_key, by_room, against_held, against_entry, expires_at, says_same}
 use Rattle.ft_base.specs.declared.admissions.Admission.{Admission}
 use Rattle.ft_base.specs.declared.admissions.Admission.TheVariants.{Expired, Same, Other, Full, New}
 use Rattle.group_model.specs.Serving.{accepted, admitted, served_or, unless_bad, on_request}
@@ -53,42 +53,82 @@ pub record AnswerLaws : Type 0 where
 
 -- ---- a repeat
 
--- the entry of a repeat, which is of the same operation
-record Repeats (journal : List Entry) (q : Request) (i : ℕ) : Type 0 where
+-- the entry of a repeat, which is of the same operation and the same logical invocation
+pub record Repeats (journal : List Entry) (q : Request) (i : ℕ) : Type 0 where
   pub entry : Entry
   pub at : slice_get journal i ≡ Some entry
+  pub same_key : entry.request.key ≡ q.key
   pub same_op : q.op ≡ entry.request.op
 
-abbrev IfSame : (ℕ → Type 0) → Admission → Type 0
+abbrev pub IfSame : (ℕ → Type 0) → Admission → Type 0
 IfSame P (Expired e) = Unit {0}
 IfSame P (Same i) = P i
 IfSame P (Other i) = Unit {0}
 IfSame P Full = Unit {0}
 IfSame P New = Unit {0}
 
-and_first : (a b : Bool) → (a && b) ≡ true → a ≡ true
-and_first true b e = refl
-and_first false b e = e
+both_hold : (a b : Bool) → (a && b) ≡ true → (a ≡ true) × (b ≡ true)
+both_hold true b e = (refl, e)
+both_hold false b e = absurd cc
+
+-- the place of the last of which a test holds
+record IsPlaced {A : Type 0} (test : A → Bool) (xs : List A) (i : ℕ) : Type 0 where
+  value : A
+  at : slice_get xs i ≡ Some value
+  holds : test value ≡ true
+
+is_placed : {A : Type 0} (test : A → Bool) (xs : List A) (i : ℕ) → last_place test xs ≡ Some i → IsPlaced test xs i
+unfolding last_place
+is_placed test [] i e = absurd cc
+is_placed test (x ∷ xs) i e = go (λ j some. is_placed test xs j some) (last_place test xs) refl (test x) refl e where
+  go : ((j : ℕ) → last_place test xs ≡ Some j → IsPlaced test xs j) → (o : Option ℕ) → last_place test xs ≡ o → (b : Bool) → test x ≡ b → later_or o b ≡ Some i →
+      IsPlaced test (x ∷ xs) i
+  go behind None none true holds f =
+      subst (IsPlaced test (x ∷ xs)) (let k : 0 ≡ i = cc in k) (record { value = x; at = refl; holds = holds })
+  go behind None none false holds f = absurd cc
+  go behind (Some j) some b holds f =
+      let p = behind j some in
+      subst (IsPlaced test (x ∷ xs)) (let k : suc j ≡ i = cc in k) (record { value = p.value; at = p.at; holds = p.holds })
+
+-- an entry that holds a key, with the same expiration, has this key
+one_key : (now : ℕ) (key : Key) (o : Option Key) → is_held_by now key o ≡ true → expires_at key.expiration.0 o ≡ true → o ≡ Some key
+one_key now key None holds same = absurd cc
+one_key now key (Some other) holds same =
+    let call = both_hold _ _ (both_hold _ _ holds).0 in
+    let client : other.client ≡ key.client = sym ((bytes_eq-Decides key.client other.client).0 call.0) in
+    let retention : other.retention.0 ≡ key.retention.0 = sym ((Decides-int_eq key.retention.0 other.retention.0).0 call.1) in
+    let expiration : other.expiration.0 ≡ key.expiration.0 = grind (arith, nat_tests, same) in
+    λ i. Some (record { client = client i; retention = record { 0 = retention i }; expiration = record { 0 = expiration i } })
 
 room_repeats : (journal : List Entry) (q : Request) → IfSame (Repeats journal q) (by_room (length journal))
 room_repeats journal q = either_so (IfSame (Repeats journal q)) (nat_le JOURNAL_LIMIT (length journal)) Full New (λ full. tt) (λ room. tt)
 
-entry_repeats : (journal : List Entry) (q : Request) (key : Key) (i : ℕ) (o : Option Entry) → slice_get journal i ≡ o →
-    IfSame (Repeats journal q) (against_entry i q key o)
-entry_repeats journal q key i None at = tt
-entry_repeats journal q key i (Some e) at =
+entry_repeats : (journal : List Entry) (now : ℕ) (q : Request) (key : Key) (i : ℕ) (o : Option Entry) → q.key ≡ Some key →
+    IsPlaced (is_held now key) journal i → slice_get journal i ≡ o → IfSame (Repeats journal q) (against_entry i q key o)
+entry_repeats journal now q key i None asked placed at = tt
+entry_repeats journal now q key i (Some e) asked placed at =
+    let holds : is_held now key e ≡ true = subst (λ (x : Entry). is_held now key x ≡ true) (let k : placed.value ≡ e = cc (placed.at, at) in k) placed.holds in
     either_so (IfSame (Repeats journal q)) (says_same q key e.request) (Same i) (Other i)
-    (λ same. record { entry = e; at = at; same_op = (bytes_eq-Decides q.op e.request.op).0 (and_first _ _ (and_first _ _ same)) }) (λ other. tt)
+    (λ same.
+    let says = both_hold _ _ same in
+    record {
+      entry = e;
+      at = at;
+      same_key = one_key now key e.request.key holds says.1 ∙ sym asked;
+      same_op = (bytes_eq-Decides q.op e.request.op).0 (both_hold _ _ says.0).0;
+    }) (λ other. tt)
 
-held_repeats : (journal : List Entry) (q : Request) (key : Key) (o : Option ℕ) → IfSame (Repeats journal q) (against_held journal q key o)
-held_repeats journal q key None = room_repeats journal q
-held_repeats journal q key (Some i) = entry_repeats journal q key i (slice_get journal i) refl
+held_repeats : (journal : List Entry) (now : ℕ) (q : Request) (key : Key) (o : Option ℕ) → q.key ≡ Some key → held journal key now ≡ o →
+    IfSame (Repeats journal q) (against_held journal q key o)
+held_repeats journal now q key None asked is = room_repeats journal q
+held_repeats journal now q key (Some i) asked is =
+    entry_repeats journal now q key i (slice_get journal i) asked (is_placed (is_held now key) journal i is) refl
 
-key_repeats : (journal : List Entry) (now : ℕ) (q : Request) (o : Option Key) → IfSame (Repeats journal q) (by_key journal now q o)
-key_repeats journal now q None = room_repeats journal q
-key_repeats journal now q (Some key) =
+pub key_repeats : (journal : List Entry) (now : ℕ) (q : Request) (o : Option Key) → q.key ≡ o → IfSame (Repeats journal q) (by_key journal now q o)
+key_repeats journal now q None asked = room_repeats journal q
+key_repeats journal now q (Some key) asked =
     either_so (IfSame (Repeats journal q)) (nat_le key.expiration.0 now) (Expired key.expiration) (against_held journal q key (held journal key now))
-    (λ past. tt) (λ later. held_repeats journal q key (held journal key now))
+    (λ past. tt) (λ later. held_repeats journal now q key (held journal key now) asked refl)
 
 -- ---- the request that is asked for is of the operation that is asked for
 
@@ -188,7 +228,7 @@ served_or_answers laws m c h host clock op stop fails (Err refused) told may = t
 served_or_answers laws m c h host clock op stop fails (Ok q) told may =
     let now = max clock c.time in
     admitted_answers laws m (with_ran (length c.journal) c) (caught_up c h) host now op q stop fails (admission c.journal now q) (may q refl)
-    (key_repeats c.journal now q q.key)
+    (key_repeats c.journal now q q.key refl)
 
 unless_bad_answers : (m : Machine) (op : Option (List ℕ)) (bad : Option ℕ) (c : Common) (h : Host) (t : Turn) → Answers m op t → Answers m op (unless_bad bad c h t)
 unless_bad_answers m op None c h t answers = answers

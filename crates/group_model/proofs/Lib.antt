@@ -15,6 +15,7 @@ pub mod Leaving
 pub mod Sending
 pub mod Told
 pub mod Answering
+pub mod Replying
 pub mod Reopening
 pub mod Stepping
 pub mod Appending

@@ -20,4 +20,5 @@ pub mod Takers
 pub mod Steps
 pub mod Appending
 pub mod Answering
+pub mod Replying
 pub mod Reopening

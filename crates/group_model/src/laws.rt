@@ -5,6 +5,7 @@ ghost use Rattle.group_model.specs.Answering.{AnswersAreGiven, RequestsAreReplie
 ghost use Rattle.group_model.specs.Appending.{NewRequestsAreAccepted, OnlyFaultsAreShown, OnlyLeadersAppend, UnshownFaultsChangeNothing};
 ghost use Rattle.group_model.specs.Counting.{CallsAreCounted};
 ghost use Rattle.group_model.specs.Laws.{GroupsGrow, RepliesStay, StatesStay, DeposedAppendNothing, AgreementLasts, KnowledgeNeverFalls, GroupsStaySound, JournalsStay, NoneRunsAhead, RefusalsChangeNothing};
+ghost use Rattle.group_model.specs.Replying.{EntriesAreReplied};
 ghost use Rattle.group_model.specs.Sending.{WhatIsSentAgrees};
 ghost use Rattle.group_model.specs.Steps.{LeanGrows, LeanKeepsAgreement, LeanStaysSound, StepsGrow, StepsKeepAgreement, StepsStaySound};
 ghost use Rattle.group_model.specs.Takers.{TakersAreInside, TakersMayTake, UpdatersMaySend};
@@ -79,6 +80,12 @@ pub fn answers_are_given()
     canonical_forms_are_of_values();
     replies_are_given();
 }
+
+/// A request that was appended, or repeats an entry, is told that entry's one reply, where it is answered: the entry is of
+/// its own logical invocation. No other request is told an outcome.
+pub fn entries_are_replied()
+    ensures { EntriesAreReplied }
+{}
 
 /// A request has a reply without an answer exactly where its host stopped, which then knows nothing, and
 /// has sent nothing.
