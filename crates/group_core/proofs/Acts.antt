@@ -115,6 +115,7 @@ module _ (replicas : ReplicasGoOn) (holdbacks : HoldbacksGoOn) (machines : â„• â
           lean = short.lean;
           stands = stands_after (host_of e) short.left log host beside grows short.log short.host (left_sound (host_of e) short.left log beside grows short.log short.sound);
           calls = short.calls;
+          unwritten = short.unwritten;
         }
     acted answer log host before now taken =
         let m = machines g.common.kind in

@@ -4,6 +4,7 @@ pub mod Stepping
 pub mod Opens
 pub mod Runs
 pub mod Tells
+pub mod Foretold
 pub mod WhoTakes
 pub mod Trying
 pub mod Resumes

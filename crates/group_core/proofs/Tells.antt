@@ -1,11 +1,11 @@
 -- What a core and its log's keeper tell.
-use Rattle.std.proofs.Common.{◌≡◌, ℕ, ◌<◌, ◌≤◌, inl, inr, max, Bool, true, false, List, [], ◌∷◌, length-append, Option, Some, None, refl, sym, subst, ap, ◌∙◌, arith}
+use Rattle.std.proofs.Common.{◌≡◌, ℕ, ◌<◌, ◌≤◌, inl, inr, max, Bool, true, false, List, [], ◌∷◌, length-append, Option, Some, None, refl, sym, ap, ◌∙◌, arith}
 use Rattle.std.specs.Prelude.{◌&&◌, ◌+◌, ◌==◌, length, nat_le, if◌then◌else◌}
 use Rattle.std.proofs.lemmas.Bool.Decides.{nat_tests}
 use Rattle.ft_base.specs.Machine.{Machine}
 use Rattle.ft_base.specs.declared.decisions.Decision.{Decision}
 use Rattle.ft_base.specs.declared.decisions.Decision.TheVariants as decisions
-use Rattle.ft_outside.specs.Keeping.{plan_after, IsForetold}
+use Rattle.ft_outside.specs.Keeping.{plan_after}
 use Rattle.ft_outside.specs.Outside.{next_count}
 use Rattle.sys_faults.specs.declared.answers.Answer.{Answer}
 use Rattle.message_log.specs.Calls.{IsTidied}
@@ -29,9 +29,9 @@ use Rattle.group_stands.specs.Replying.{LogsReply}
 use Rattle.group_stands.specs.Telling.{LogsTell}
 use Rattle.group_stands.specs.Viewing.{LogsShowViews, LogsShowNoOthers}
 use Rattle.group_hosts.specs.Hosts.{HostPicture, HostStands}
-use Rattle.group_hosts.specs.Keeping.{HasSameEntries, HasOneMore, WroteNothing, Wrote, FailedToWrite, WroteCheckpoint, WroteBy, WroteRefused, WroteTaken, WroteFor}
+use Rattle.group_hosts.specs.Keeping.{HasSameEntries, HasOneMore, WroteNothing, Wrote, WroteBy, WroteRefused, WroteTaken, WroteFor}
 use Rattle.group_core.specs.Cores.{CorePicture, Stands}
-use Rattle.group_core.specs.Telling.{shown_view, HostTells, CoresTell, HasNotFailed, UnfailingLogsShowNoFault, IsCounted, LogFaultsAreCounted, WantOfMemoryIsTold, WroteLeft}
+use Rattle.group_core.specs.Telling.{shown_view, HostTells, CoresTell, IsCounted, LogFaultsAreCounted, WantOfMemoryIsTold, WroteLeft}
 
 -- ---- a core
 
@@ -72,55 +72,6 @@ cores tell replies shown others machines core g stands =
       replies = replies machines g.common core.log stands.log;
       hosts = λ i host there. host_tells machines g.common host (g.hosts i) (stands.hosts i host there);
     }
-
--- ---- a keeper that tells that no write is to fail
-
-module _ (old new : LogPicture) (plan : old.plan ≡ Some []) where
-  unmoved : (answer : GroupAnswer) → shows_fault answer ≡ false → WroteNothing old new → HasNotFailed answer new
-  unmoved answer shown wrote = record { shown = shown; plan = wrote.0 ∙ plan }
-
-  one : (answer : GroupAnswer) → shows_fault answer ≡ false → Wrote old new → HasNotFailed answer new
-  one answer shown wrote = record { shown = shown; plan = wrote.plan ∙ ap plan_after plan }
-
-  -- no write fails
-  none_fails : FailedToWrite old new → ⊥
-  none_fails failed = let no : IsForetold (Some []) true = subst (λ (p : Option (List Bool)). IsForetold p true) plan failed.foretold in absurd cc
-
-  decided : (decision : Decision) (answer : Option Answer) (out : List Out) → WroteBy decision old new → HasNotFailed (answers.Reply decision answer out) new
-  decided (decisions.Append i) answer out wrote = one (answers.Reply (decisions.Append i) answer out) refl wrote
-  decided decisions.LogFault answer out wrote = absurd (none_fails wrote)
-  decided decision answer out wrote = unmoved (answers.Reply decision answer out) refl wrote
-
-  refused : (fault : ManageFault) → WroteRefused fault old new → HasNotFailed (answers.Refused fault) new
-  refused manage_faults.LogFault wrote = absurd (none_fails wrote)
-  refused fault wrote = unmoved (answers.Refused fault) refl wrote
-
-  -- a checkpoint is written, and whatever is tidied behind it
-  tidied : (how : Tidied) (before : KeeperPicture) (written viewed : List ℕ) (later : KeeperPicture) →
-      before.plan ≡ Some [] → IsTidied how before written viewed later → later.plan ≡ Some []
-  tidied Cut before written viewed later is was = was.3 ∙ ap (λ (p : Option (List Bool)). plan_after (plan_after p)) is
-  tidied Uncut before written viewed later is was = was.3 ∙ ap (λ (p : Option (List Bool)). plan_after (plan_after p)) is
-  tidied Unwritten before written viewed later is was = was.2 ∙ ap plan_after is
-
-  checkpointed : (answer : GroupAnswer) → shows_fault answer ≡ false → WroteCheckpoint old new → HasNotFailed answer new
-  checkpointed answer shown wrote = record { shown = shown; plan = tidied wrote.how (record (keeper_of old) { plan = plan_after old.plan }) wrote.checkpoint wrote.view (keeper_of new) (ap plan_after plan) wrote.tidied }
-
-  taken : (e : Event) (answer : GroupAnswer) → shows_fault answer ≡ false → WroteTaken e old new → HasNotFailed answer new
-  taken (events.Checkpoint host clock) answer shown wrote = checkpointed answer shown wrote
-  taken e answer shown wrote = unmoved answer shown wrote
-
-  answered : (e : Event) (answer : GroupAnswer) → WroteFor e answer old new → HasNotFailed answer new
-  answered e (answers.Reply decision answer out) wrote = decided decision answer out wrote
-  answered e (answers.Changed view out) wrote = one (answers.Changed view out) refl wrote
-  answered e (answers.Refused fault) wrote = refused fault wrote
-  answered e (answers.Taken from position out) wrote = taken e (answers.Taken from position out) refl wrote
-  answered e answers.LogFault wrote = absurd (none_fails wrote)
-  answered e answers.NoMemory (inl wrote) = unmoved answers.NoMemory refl wrote.0
-  answered e answers.NoMemory (inr wrote) = one answers.NoMemory refl wrote.0
-  answered e answer wrote = unmoved answer refl wrote
-
-pub keepers : UnfailingLogsShowNoFault
-keepers e answer old new wrote plan = answered old new plan e answer wrote
 
 -- ---- the count of failed writes
 

@@ -23,7 +23,6 @@ use Rattle.group_model.specs.Plain.{Group}
 use Rattle.group_model.specs.Reopening.{reopened}
 use Rattle.ft_base.specs.Views.{is_passive}
 use Rattle.group_model.specs.Views.{is_warm}
-use Rattle.group_stands.specs.Going.{LogsGoOnBeside}
 use Rattle.group_stands.specs.Telling.{LogsTell}
 use Rattle.group_core.specs.Acting.{IsActed, IsTaken}
 use Rattle.group_core.specs.Cores.{CorePicture, Stands}
@@ -70,26 +69,6 @@ module _ (machines : ℕ → Machine) where
       host = there;
       brought = (warm_style g.common.style (ap is_warm (sym stands.style) ∙ warm), takes tell host (warm_passive core.style warm) leads g stands);
     }
-
--- the plan of the log's writes doesn't count
-pub goes_on_planned : LogsGoOnBeside → (machines : ℕ → Machine) (core later : CorePicture) (plan : Option (List Bool)) → IsSome machines core →
-    later ≡ record core { log = record core.log { plan = plan } } → IsSome machines later
-goes_on_planned beside machines core later plan some is =
-    let c = some.group.common in
-    let log = core.log in
-    subst (λ (p : CorePicture). IsSome machines p) (sym is) (record {
-      group = some.group;
-      stands = record {
-        id = some.stands.id;
-        style = some.stands.style;
-        opening = some.stands.opening;
-        first_kept = some.stands.first_kept;
-        log = beside machines c log some.stands.log log.reserved log.records plan log.faults;
-        count = some.stands.count;
-        hosts = some.stands.hosts;
-        sound = some.stands.sound;
-      };
-    })
 
 -- ---- a log that is opened again
 

@@ -1,5 +1,5 @@
 -- What an event leaves of a group's core.
-use Rattle.std.specs.Prelude.{◌≡◌, ℕ, ◌+◌, ◌≤◌, false}
+use Rattle.std.specs.Prelude.{◌≡◌, ℕ, ◌+◌, ◌≤◌, true, false}
 use Rattle.ft_base.specs.Machine.{Machine}
 use Rattle.group_model.specs.declared.events.Event.{Event}
 use Rattle.group_model.specs.declared.events.GroupAnswer.{GroupAnswer}
@@ -17,12 +17,13 @@ pub record IsTaken (machines : ℕ → Machine) (g : Group) (e : Event) (answer 
   pub calls : now ≡ before + (turn_of (machines g.common.kind) g e (shows_fault answer)).calls
 
 -- Memory was wanted: the core stands for a group that this may leave, and the servant was called no more often
--- than by the event's turn.
+-- than by the event's turn; where no request joined, no more often than by that in which the log's write fails.
 pub record IsShort (machines : ℕ → Machine) (g : Group) (e : Event) (core : CorePicture) (before now : ℕ) : Type 0 where
   pub left : Group
   pub lean : IsLean (machines g.common.kind) g e left
   pub stands : Stands machines core left
   pub calls : now ≤ before + (turn_of (machines g.common.kind) g e false).calls
+  pub unwritten : left.common.journal ≡ g.common.journal → now ≤ before + (turn_of (machines g.common.kind) g e true).calls
 
 -- The event had the plain group's turn, in which the log's write fails where the answer shows it; or memory was
 -- wanted.

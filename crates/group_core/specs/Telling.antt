@@ -1,5 +1,5 @@
 -- What a core that stands for a plain group tells of it, and what the log's keeper tells of an event.
-use Rattle.std.specs.Prelude.{◌≡◌, ℕ, ◌≤◌, ◌⊎◌, ◌&&◌, Bool, false, true, nat_le, if◌then◌else◌, [], length, slice_get, Option, Some, None}
+use Rattle.std.specs.Prelude.{◌≡◌, ℕ, ◌+◌, ◌≤◌, ◌⊎◌, ◌&&◌, not, Bool, false, true, nat_le, if◌then◌else◌, List, [], ◌∷◌, length, slice_get, Option, Some, None}
 use Rattle.ft_base.specs.Machine.{Machine}
 use Rattle.ft_base.specs.declared.requests.Key.{Key}
 use Rattle.ft_base.specs.declared.views.View.{View}
@@ -10,12 +10,13 @@ use Rattle.group_model.specs.declared.events.Event.{Event}
 use Rattle.group_model.specs.declared.events.GroupAnswer.{GroupAnswer}
 use Rattle.group_model.specs.declared.events.GroupAnswer.TheVariants as answers
 use Rattle.group_model.specs.Lean.{IsLean, IsUnrun}
-use Rattle.group_model.specs.Events.{shows_fault}
+use Rattle.group_model.specs.Events.{shows_fault, turn_of}
 use Rattle.group_model.specs.Plain.{Common, Host, Group, state_at}
 use Rattle.group_model.specs.Views.{newest, newest_view, view_at}
 use Rattle.group_hosts.specs.Hosts.{HostPicture}
 use Rattle.group_stands.specs.Replying.{held_reply, retained_reply}
 use Rattle.group_hosts.specs.Keeping.{WroteFor, WroteNothing, Wrote}
+use Rattle.group_core.specs.Acting.{IsShort}
 use Rattle.group_core.specs.Cores.{CorePicture, Stands}
 
 -- the view of a version, where the group still has it
@@ -48,17 +49,6 @@ pub record CoreTells (machines : ℕ → Machine) (core : CorePicture) (g : Grou
 abbrev pub CoresTell : Type 0
 CoresTell = (machines : ℕ → Machine) (core : CorePicture) (g : Group) → Stands machines core g → CoreTells machines core g
 
--- ---- a keeper of which it is told that no write fails
-
--- no answer shows a failed write, and none is told to come
-pub record HasNotFailed (answer : GroupAnswer) (now : LogPicture) : Type 0 where
-  pub shown : shows_fault answer ≡ false
-  pub plan : now.plan ≡ Some []
-
--- so it is of every event, also of a checkpoint with what is tidied behind it, and where memory was wanted
-abbrev pub UnfailingLogsShowNoFault : Type 0
-UnfailingLogsShowNoFault = (e : Event) (answer : GroupAnswer) (old new : LogPicture) → WroteFor e answer old new → old.plan ≡ Some [] → HasNotFailed answer new
-
 -- ---- failed writes are counted
 
 -- one more, where the answer shows it
@@ -79,3 +69,26 @@ WroteLeft machines g e left old new =
 abbrev pub WantOfMemoryIsTold : Type 0
 WantOfMemoryIsTold = (machines : ℕ → Machine) (core later : CorePicture) (g left : Group) (e : Event) → Stands machines core g → Stands machines later left →
     IsLean (machines g.common.kind) g e left → WroteFor e answers.NoMemory core.log later.log → WroteLeft machines g e left core.log later.log
+
+-- ---- a keeper of which it is told whether its next write fails, and that no later one does
+
+-- its plan
+abbrev pub plan_of_next : Bool → Option (List Bool)
+plan_of_next true = Some (true ∷ [])
+plan_of_next false = Some []
+
+-- The turn is that in which the log's write fails as was told. The failure is used up where the answer shows it.
+pub record IsAsForetold (m : Machine) (g : Group) (e : Event) (answer : GroupAnswer) (fails : Bool) (now : LogPicture) : Type 0 where
+  pub turn : turn_of m g e (shows_fault answer) ≡ turn_of m g e fails
+  pub plan : now.plan ≡ plan_of_next (fails && not (shows_fault answer))
+
+-- so it is of every event that has its turn, also of a checkpoint with what is tidied behind it
+abbrev pub TurnsAreAsForetold : Type 0
+TurnsAreAsForetold = (m : Machine) (g : Group) (e : Event) (answer : GroupAnswer) (fails : Bool) (old new : LogPicture) →
+    (turn_of m g e (shows_fault answer)).answer ≡ answer → WroteFor e answer old new → old.plan ≡ plan_of_next fails → IsAsForetold m g e answer fails new
+
+-- where memory was wanted, the servant was called no more often than by that turn
+abbrev pub ShortCallsAreAsForetold : Type 0
+ShortCallsAreAsForetold = (machines : ℕ → Machine) (core later : CorePicture) (g : Group) (e : Event) (fails : Bool) (before now : ℕ) →
+    Stands machines core g → IsShort machines g e later before now → WroteFor e answers.NoMemory core.log later.log → core.log.plan ≡ plan_of_next fails →
+    now ≤ before + (turn_of (machines g.common.kind) g e fails).calls

@@ -293,11 +293,13 @@ impl<S: Servant + Drop, K: Keeper> GroupCore<S, K> {
 }
 
 impl<S: Servant + Drop> GroupCore<S, MemKeeper> {
-    /// Makes the log's next write fail.
+    /// Makes the log's next write fail. The core stands for what it stood for.
     pub fn fail_next(&mut self) -> Result<(), NoMemory>
+        ensures stands { (g : Group) → Stands S.machine self.old g → Stands S.machine self.new g }
         ensures planned { OnOk result (self.new ≡ record self.old { log = record self.old.log { plan = option_map failing_next self.old.log.plan } }) }
         ensures left { OnErr result (self.new ≡ self.old) }
     {
+        logs_go_on();
         self.log.fail_next()
     }
 }

@@ -1,6 +1,6 @@
 //! What a group's core tells. The functions do nothing: their contracts are facts.
 ghost use Rattle.group_core.specs.Stepping.{ActsAreSteps};
-ghost use Rattle.group_core.specs.Telling.{CoresTell, LogFaultsAreCounted, UnfailingLogsShowNoFault, WantOfMemoryIsTold};
+ghost use Rattle.group_core.specs.Telling.{CoresTell, LogFaultsAreCounted, ShortCallsAreAsForetold, TurnsAreAsForetold, WantOfMemoryIsTold};
 
 use group_stands::{logs_reply, logs_tell, views_are_shown};
 
@@ -32,7 +32,11 @@ pub fn want_of_memory_is_told()
     logs_tell();
 }
 
-/// Over a keeper that tells that no write is to fail, no answer shows a failed write; and it goes on telling so.
-pub fn unfailing_logs_show_no_fault()
-    ensures { UnfailingLogsShowNoFault }
-{}
+/// Over a keeper that tells whether its next write is to fail, and that no later one is, an event has the turn in which
+/// the log's write fails so; and a failure comes once.
+pub fn turns_are_as_foretold()
+    ensures turn { TurnsAreAsForetold }
+    ensures short { ShortCallsAreAsForetold }
+{
+    logs_tell();
+}

@@ -25,7 +25,7 @@ mod trials;
 
 pub use cores::GroupCore;
 pub use laws::{
-    acts_are_steps, cores_tell, log_faults_are_counted, unfailing_logs_show_no_fault,
+    acts_are_steps, cores_tell, log_faults_are_counted, turns_are_as_foretold,
     want_of_memory_is_told,
 };
 pub use reopens::cores_may_go_on;

@@ -13,7 +13,7 @@ use ft_base::{
 use ft_outside::MemKeeper;
 use group_hosts::is_warm;
 use group_model::{Asked, Event, GroupAnswer, Inner, Out, OutList};
-use group_stands::{logs_go_on, logs_tell};
+use group_stands::logs_tell;
 use message_log::Log;
 use std::alloc::Global;
 use std::sync::ledger::Ledger;
@@ -346,7 +346,6 @@ fn fail<S: Servant + Drop>(trial: &mut Trial<S>) -> Result<Told, NoMemory>
     requires { IsSome S.machine trial.old.core }
     ensures { OnOk result (IsSome S.machine trial.new.core) }
 {
-    logs_go_on();
     trial.core.fail_next()?;
     Ok(("fail", 0, 0))
 }

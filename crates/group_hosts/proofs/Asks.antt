@@ -1,5 +1,5 @@
 -- A request at a host.
-use Rattle.std.proofs.Common.{◌≡◌, ℕ, ◌+◌, ◌<◌, ◌≤◌, inl, inr, max, Bool, true, false, List, [], length, refl, sym, subst, ap, ◌∙◌, arith}
+use Rattle.std.proofs.Common.{◌≡◌, ℕ, ◌+◌, ◌<◌, ◌≤◌, inl, inr, max, Bool, true, false, List, [], ◌∷◌, length, length-append, refl, sym, subst, ap, ◌∙◌, arith}
 use Rattle.std.specs.Prelude.{Option, Some, None, Result, Ok, Err}
 use Rattle.ft_base.specs.Machine.{Machine}
 use Rattle.ft_base.specs.declared.decisions.Decision.{Decision}
@@ -39,6 +39,13 @@ use Rattle.group_hosts.proofs.Hears.{put-same, up_is, forgot}
 use Rattle.group_hosts.proofs.Holds.{sound_of, with_ran-same}
 use Rattle.group_hosts.proofs.Knows.{knows_then, known_has}
 use Rattle.group_hosts.proofs.Shapes.{IsShaped, going, ended, shaped, calls_new}
+
+-- a journal that a request joined isn't that of before
+one_longer : (c : Common) (at : ℕ) (request : Request) → (joined c at request).journal ≡ c.journal → ⊥
+one_longer c at request same =
+    let sum = length-append c.journal (record { at = at; request = request } ∷ []) in
+    let both : length (joined c at request).journal ≡ length c.journal = ap length same in
+    omega (arith, sum, both)
 
 module _ (machines : ℕ → Machine) (g : Group) (s : Shared) (host : HostNo) (p : HostPicture) (here : IsHere machines g.common (g.hosts host.0) s p)
     (clock : Tick) (asked : Asked) (stop : Stop) (is_up : p.up ≡ true) where
@@ -175,6 +182,7 @@ module _ (machines : ℕ → Machine) (g : Group) (s : Shared) (host : HostNo) (
               (subst (λ (d : Common). HostStands machines d (after before.replica before.held) h') (sym same_ran) stands);
           sound = subst (λ (x : Host). IsSoundHost (with_ran h.place.position c) x) (sym (put-same g.hosts host.0 h')) (subst (λ (d : Common). IsSoundHost d h') (sym same_ran) known_sound);
           calls = omega arith;
+          unwritten = λ kept. omega arith;
         })
 
     -- on its way, at a position
@@ -184,6 +192,8 @@ module _ (machines : ℕ → Machine) (g : Group) (s : Shared) (host : HostNo) (
         let come = stopped.come in
         let there = caught_up_to c h' n in
         let stands = host_of_parts (with_ran n c) there now come.stand refl refl in
+        let few : (fails : Bool) → now.steps ≤ before.steps + (turn_of (machines c.kind) g (events.Request host clock asked stop) fails).calls =
+        λ fails. subst (λ (t : Turn). now.steps ≤ before.steps + t.calls) (sym (passed_turn stop fails)) (omega (arith, stopped.calls)) in
         record {
           left = record { common = with_ran n c; hosts = put g.hosts host.0 there };
           lean = leans.partly (record {
@@ -196,7 +206,8 @@ module _ (machines : ℕ → Machine) (g : Group) (s : Shared) (host : HostNo) (
           host = subst (λ (x : Host). HostStands machines (with_ran n c) (after now.replica now.held) x) (sym (put-same g.hosts host.0 there)) stands;
           sound = subst (λ (x : Host). IsSoundHost (with_ran n c) x) (sym (put-same g.hosts host.0 there))
               (sound_of machines (with_ran n c) _ there stands own_up may_know (λ no. let e : true ≡ false = sym come.loaded ∙ no in absurd cc) (λ passive. ap (from n) (here.sound.passive passive)));
-          calls = subst (λ (t : Turn). now.steps ≤ before.steps + t.calls) (sym (passed_turn stop false)) (omega (arith, stopped.calls));
+          calls = few false;
+          unwritten = λ kept. few true;
         }
 
     pub short_taken : (before now : Parts) → before ≡ parts s.log p.replica p.held before.steps → IsEntered machines c h' host.0 clock.0 request stop Short before now →
@@ -226,6 +237,7 @@ module _ (machines : ℕ → Machine) (g : Group) (s : Shared) (host : HostNo) (
           host = subst (λ (x : Host). HostStands machines d (forgotten true (after now.replica now.held)) x) (sym (put-same g.hosts host.0 (blank true))) stands;
           sound = subst (λ (x : Host). IsSoundHost d x) (sym (put-same g.hosts host.0 (blank true))) (record { known = (omega arith, inl refl); base = omega arith; position = omega arith; unloaded = λ no. (refl, refl); held = tt; passive = λ passive. refl; down = λ no. absurd cc });
           calls = subst (λ (t : Turn). now.steps ≤ before.steps + t.calls) (sym (passed_turn stop false)) (omega (arith, unrun.calls, calls));
+          unwritten = λ kept. absurd (one_longer c (max clock.0 c.time) request kept);
         }
 
     -- whatever came of it

@@ -155,6 +155,7 @@ module _ (machines : ℕ → Machine) (g : Group) (s : Shared) (host : HostNo) (
     host = subst (λ (i : ℕ). HostStands machines c p (g.hosts i)) (sym at) here.host;
     sound = subst (λ (i : ℕ). IsSoundHost c (g.hosts i)) (sym at) here.sound;
     calls = omega arith;
+    unwritten = λ same. omega arith;
   }
 
   pub state_given : NothingIsHeld → (n : ℕ) (state : List ℕ) (given : Given) (replica : ReplicaPicture) (steps : ℕ) → p.up ≡ true → is_passive c.style ≡ true →
@@ -228,6 +229,7 @@ module _ (machines : ℕ → Machine) (g : Group) (s : Shared) (host : HostNo) (
       let same : with_ran n c ≡ c = with_ran-same c n is.replica.ran in
       let last : n ≤ reach (with_number i h.holdback) h.place.position = omega (arith, is.short, order_reaches i comes) in
       let count = (order_turns i).calls (omega (arith, is.first, is.short)) in
+      let few : now.steps ≤ before.steps + t.calls = subst (λ (x : Turn). now.steps ≤ before.steps + x.calls) (sym whole) (omega (arith, is.calls, is.first, is.short, count)) in
       record {
         left = record { common = with_ran n c; hosts = put g.hosts host.0 after };
         lean = leans.partly (record {
@@ -241,7 +243,8 @@ module _ (machines : ℕ → Machine) (g : Group) (s : Shared) (host : HostNo) (
             (subst (λ (d : Common). HostStands machines d (record p { replica = now.replica; held = now.orders }) after) (sym same) stands);
         sound = subst (λ (x : Host). IsSoundHost (with_ran n c) x) (sym (put-same g.hosts host.0 after))
             (subst (λ (d : Common). IsSoundHost d after) (sym same) (sound_of machines c _ after stands (sym here.host.up ∙ up) here.sound.known (λ no. let e : true ≡ false = sym comes.loaded ∙ no in absurd cc) (λ passive. absurd (active passive))));
-        calls = subst (λ (x : Turn). now.steps ≤ before.steps + x.calls) (sym whole) (omega (arith, is.calls, is.first, is.short, count));
+        calls = few;
+        unwritten = λ kept. few;
       }
 
   pub order_heard : (i : ℕ) (request : Request) (o : Ordered) (before now : OrdersSeen) → p.up ≡ true → c.style ≡ Active → before.replica ≡ p.replica → before.orders ≡ p.held →

@@ -156,6 +156,7 @@ managed_taken replicas machines g s change p here answers.NoMemory steps log lef
   host = here.host;
   sound = here.sound;
   calls = omega arith;
+  unwritten = λ same. omega arith;
 }
 managed_taken replicas machines g s change p here answer steps log is =
     let h = g.hosts (host_of_change change).0 in

@@ -83,14 +83,14 @@ module _ (machines : ℕ → Machine) (g : Group) (s : Shared) (e : Event) (p : 
   own = g.hosts (host_of e)
 
   -- an event that has its host, which is up, know the newest view and catch up, whatever comes then
-  pub record IsTaking (t : Turn) : Type 0 where
+  pub record IsTaking : Type 0 where
     pub up : own.up ≡ true
     pub part : (x : Host) → leans.IsOnTheWay shares own (newest shares) x → leans.LeavesPart (machines shares.kind) g e x
-    pub turn : turn (machines shares.kind) shares own e false ≡ costing (calls_behind shares own) t
+    pub catches_up : (fails : Bool) → calls_behind shares own ≤ (turn (machines shares.kind) shares own e fails).calls
 
-  module _ (t : Turn) (is : IsTaking t) (before now : ℕ) (calls : now ≤ before + calls_behind shares own) where
-    enough : now ≤ before + (turn (machines shares.kind) shares own e false).calls
-    enough = subst (λ (x : Turn). now ≤ before + x.calls) (sym is.turn) (omega (arith, calls))
+  module _ (is : IsTaking) (before now : ℕ) (calls : now ≤ before + calls_behind shares own) where
+    enough : (fails : Bool) → now ≤ before + (turn (machines shares.kind) shares own e fails).calls
+    enough fails = omega (arith, calls, is.catches_up fails)
 
     -- what it leaves, where the host is this one
     left_by : (x : Host) (log : LogPicture) (picture : HostPicture) → leans.IsOnTheWay shares own (newest shares) x →
@@ -102,7 +102,8 @@ module _ (machines : ℕ → Machine) (g : Group) (s : Shared) (e : Event) (p : 
       log = log_stands;
       host = subst (λ (y : Host). HostStands machines (with_ran x.place.position shares) picture y) (sym (put-same g.hosts (host_of e) x)) host_stands;
       sound = subst (λ (y : Host). IsSoundHost (with_ran x.place.position shares) y) (sym (put-same g.hosts (host_of e) x)) sound;
-      calls = enough;
+      calls = enough false;
+      unwritten = λ same. enough true;
     }
 
     -- before it began
@@ -143,18 +144,18 @@ module _ (machines : ℕ → Machine) (g : Group) (s : Shared) (host : HostNo) (
   abbrev d : Common
   d = with_ran (length c.journal) c
 
-  pub checkpoint_takes : (clock : Tick) → IsTaking machines g s (events.Checkpoint host clock) p here (checkpoint_written (machines c.kind) d (taking c h) host.0 clock.0 false)
+  pub checkpoint_takes : (clock : Tick) → IsTaking machines g s (events.Checkpoint host clock) p here
   checkpoint_takes clock = record {
     up = sym here.host.up ∙ up;
     part = λ x way. way;
-    turn = up_is machines g s host p here (on_checkpoint (machines c.kind) c h host.0 clock.0 false) up;
+    catches_up = λ fails. subst (λ (t : Turn). calls_behind c h ≤ t.calls) (sym (up_is machines g s host p here (on_checkpoint (machines c.kind) c h host.0 clock.0 fails) up)) (omega arith);
   }
 
-  pub update_takes : IsTaking machines g s (events.SendUpdate host) p here (update_taken (machines c.kind) d (taking c h) host.0)
+  pub update_takes : IsTaking machines g s (events.SendUpdate host) p here
   update_takes = record {
     up = sym here.host.up ∙ up;
     part = λ x way. way;
-    turn = up_is machines g s host p here (on_send_update (machines c.kind) c h host.0) up;
+    catches_up = λ fails. subst (λ (t : Turn). calls_behind c h ≤ t.calls) (sym (up_is machines g s host p here (on_send_update (machines c.kind) c h host.0) up)) (omega arith);
   }
 
   -- what such a turn leaves
@@ -198,7 +199,7 @@ module _ (machines : ℕ → Machine) (g : Group) (s : Shared) (host : HostNo) (
       IsGiven machines d (taking c h) (checkpoint_written (machines c.kind) d (taking c h) host.0 clock.0) answer log picture.replica replica → now ≡ before + calls_behind c h →
       IsTurn machines g (events.Checkpoint host clock) answer before (seen log (record picture { replica = replica }) now)
   checkpoint_given clock answers.NoMemory before now middle log picture replica ready given count =
-      rw given.1 (short_there machines g s (events.Checkpoint host clock) p here _ (checkpoint_takes clock) before now (omega (arith, count)) log picture (length c.journal) ready.caught_up.loaded ready.first (omega arith) given.0 ready.host)
+      rw given.1 (short_there machines g s (events.Checkpoint host clock) p here (checkpoint_takes clock) before now (omega (arith, count)) log picture (length c.journal) ready.caught_up.loaded ready.first (omega arith) given.0 ready.host)
   checkpoint_given clock answer before now middle log picture replica ready given count =
       subst (λ (t : Turn). IsTaken machines t answer before (seen log (record picture { replica = replica }) now))
       (sym (up_is machines g s host p here (on_checkpoint (machines c.kind) c h host.0 clock.0 (shows_fault answer)) up))
@@ -208,7 +209,7 @@ module _ (machines : ℕ → Machine) (g : Group) (s : Shared) (host : HostNo) (
       IsGiven machines d (taking c h) (λ fails. update_taken (machines c.kind) d (taking c h) host.0) answer log picture.replica replica → now ≡ before + calls_behind c h →
       IsTurn machines g (events.SendUpdate host) answer before (seen log (record picture { replica = replica }) now)
   update_given answers.NoMemory before now log picture replica ready given count =
-      rw given.1 (short_there machines g s (events.SendUpdate host) p here _ update_takes before now (omega (arith, count)) log picture (length c.journal) ready.caught_up.loaded ready.first (omega arith) given.0 ready.host)
+      rw given.1 (short_there machines g s (events.SendUpdate host) p here update_takes before now (omega (arith, count)) log picture (length c.journal) ready.caught_up.loaded ready.first (omega arith) given.0 ready.host)
   update_given answer before now log picture replica ready given count =
       subst (λ (t : Turn). IsTaken machines t answer before (seen log (record picture { replica = replica }) now))
       (sym (up_is machines g s host p here (on_send_update (machines c.kind) c h host.0) up))

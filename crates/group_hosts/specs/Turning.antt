@@ -1,5 +1,5 @@
 -- What an event leaves of its host and of its group's log.
-use Rattle.std.specs.Prelude.{◌≡◌, ℕ, ◌+◌, ◌≤◌, false}
+use Rattle.std.specs.Prelude.{◌≡◌, ℕ, ◌+◌, ◌≤◌, true, false}
 use Rattle.ft_base.specs.Machine.{Machine}
 use Rattle.message_log.specs.Picture.{Picture as LogPicture}
 use Rattle.group_model.specs.declared.events.Event.{Event}
@@ -30,7 +30,8 @@ pub record IsTaken (machines : ℕ → Machine) (t : Turn) (answer : GroupAnswer
   pub calls : now.steps ≡ before + t.calls
 
 -- Memory was wanted: log and host are those of a group that this may leave, which is sound, and the servant was
--- called no more often than by the event's turn.
+-- called no more often than by the event's turn; where no request joined, no more often than by that in which the log's
+-- write fails.
 pub record IsShort (machines : ℕ → Machine) (g : Group) (e : Event) (before : ℕ) (now : Seen) : Type 0 where
   pub left : Group
   pub lean : IsLean (machines g.common.kind) g e left
@@ -38,6 +39,7 @@ pub record IsShort (machines : ℕ → Machine) (g : Group) (e : Event) (before 
   pub host : HostStands machines left.common now.host (left.hosts (host_of e))
   pub sound : IsSoundHost left.common (left.hosts (host_of e))
   pub calls : now.steps ≤ before + (turn_of (machines g.common.kind) g e false).calls
+  pub unwritten : left.common.journal ≡ g.common.journal → now.steps ≤ before + (turn_of (machines g.common.kind) g e true).calls
 
 -- The event had the plain group's turn, in which the log's write fails where the answer shows it; or memory was
 -- wanted.

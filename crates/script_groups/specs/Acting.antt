@@ -1,5 +1,5 @@
 -- What an event leaves of a group of a script.
-use Rattle.std.specs.Prelude.{◌≡◌, ℕ, ◌+◌, ◌≤◌, true, false, List, slice_get, slice_set, Some, Result, Ok, Err}
+use Rattle.std.specs.Prelude.{◌≡◌, ℕ, ◌+◌, ◌≤◌, true, false, List}
 use Rattle.std.specs.List.{AllByRecursion}
 use Rattle.group_model.specs.Agreeing.{Agrees, IsSound}
 use Rattle.group_model.specs.declared.events.Event.{Event}

@@ -1,4 +1,4 @@
--- The groups of a script. A group is how it opened and the events that it has had; all else is computed from
+-- The groups of a script. A group is how it opened and what has happened to it since; all else is computed from
 -- these.
 use Rattle.std.specs.Prelude.{ℕ, ◌-◌, ◌==◌, suc, Bool, false, if◌then◌else◌, List, [], ◌∷◌, ◌++◌, length, map, slice_get, sum_by, Option, Some, None, option_map}
 use Rattle.std.specs.Str.{bytes_eq}
@@ -20,6 +20,9 @@ use Rattle.group_model.specs.Turns.{Turn}
 use Rattle.group_model.specs.declared.events.Event.{Event}
 use Rattle.shipped_servants.specs.Kinds.{machine_of_kind, number_of, opening_of}
 use Rattle.shipped_servants.specs.declared.kinds.Kind.{Kind}
+use Rattle.script_groups.specs.declared.happenings.Happening.{Happening}
+use Rattle.script_groups.specs.declared.happenings.Happening.TheVariants as happenings
+use Rattle.script_groups.specs.Histories.{History, none_yet, with_all}
 
 pub record ScriptGroup : Type 0 where
   pub id : GroupId
@@ -28,8 +31,8 @@ pub record ScriptGroup : Type 0 where
   -- its style and its members at its opening
   pub style : Style
   pub members : List ℕ
-  -- what it has had since
-  pub events : List Event
+  -- events that came to it since, and failures of its log's next write that were asked for
+  pub happenings : List Happening
   -- memory was wanted in an event: no more is known of it
   pub poisoned : Bool
 
@@ -40,31 +43,42 @@ machine_of g = machine_of_kind (number_of g.kind)
 abbrev pub signature_of : ScriptGroup → List ℕ → Option Signature
 signature_of g op = (machine_of g).signature op
 
--- no write of a group's log fails
-abbrev pub unfailing : Event → Step
-unfailing e = record { event = e; fails = false }
-
 abbrev pub opening_of_group : ScriptGroup → Group
 opening_of_group g = opening_group g.id.0 g.style (number_of g.kind) (opening_of g.kind) g.members
 
+abbrev pub history_of : ScriptGroup → History
+history_of g = with_all (machine_of g) (opening_of_group g) none_yet g.happenings
+
+-- the events that it has had, and which writes failed
+unfoldable pub steps_of : ScriptGroup → List Step
+steps_of g = (history_of g).steps
+
+-- its log's next write is to fail
+unfoldable pub is_failing : ScriptGroup → Bool
+is_failing g = (history_of g).fails
+
 -- the plain group, as it is now
 unfoldable pub group_of : ScriptGroup → Group
-group_of g = after_steps (machine_of g) (opening_of_group g) (map unfailing g.events)
+group_of g = after_steps (machine_of g) (opening_of_group g) (steps_of g)
 
 abbrev pub common_of : ScriptGroup → Common
 common_of g = (group_of g).common
 
--- ---- events
+-- ---- what happens to it
 
--- the group with more events behind those that it has had
-abbrev pub with_more : ScriptGroup → List Event → ScriptGroup
-with_more g more = record g { events = g.events ++ more }
+-- the group with more behind what has happened to it
+abbrev pub with_more : ScriptGroup → List Happening → ScriptGroup
+with_more g more = record g { happenings = g.happenings ++ more }
 
 abbrev pub turn : ScriptGroup → Event → Turn
-turn g e = turn_of (machine_of g) (group_of g) e false
+turn g e = turn_of (machine_of g) (group_of g) e (is_failing g)
 
 abbrev pub acted : ScriptGroup → Event → ScriptGroup
-acted g e = with_more g (e ∷ [])
+acted g e = with_more g (happenings.Event e ∷ [])
+
+-- the group whose log's next write is to fail
+abbrev pub failing : ScriptGroup → ScriptGroup
+failing g = with_more g (happenings.FailNext ∷ [])
 
 -- the same event at each of these groups
 abbrev pub all_acted : Event → List ScriptGroup → List ScriptGroup
@@ -73,17 +87,17 @@ all_acted e gs = map (λ g. acted g e) gs
 -- ---- servant calls since its opening
 
 unfoldable pub servant_calls : ScriptGroup → ℕ
-servant_calls g = calls_of (machine_of g) (opening_of_group g) (map unfailing g.events)
+servant_calls g = calls_of (machine_of g) (opening_of_group g) (steps_of g)
 
 -- the accepted entries that were run, those that hosts caught up with, and the orders that were applied
 abbrev pub entries_run : ScriptGroup → ℕ
-entries_run g = total (run_in (machine_of g)) (machine_of g) (opening_of_group g) (map unfailing g.events)
+entries_run g = total (run_in (machine_of g)) (machine_of g) (opening_of_group g) (steps_of g)
 
 abbrev pub entries_caught_up : ScriptGroup → ℕ
-entries_caught_up g = total (caught_up_in (machine_of g)) (machine_of g) (opening_of_group g) (map unfailing g.events)
+entries_caught_up g = total (caught_up_in (machine_of g)) (machine_of g) (opening_of_group g) (steps_of g)
 
 abbrev pub orders_applied : ScriptGroup → ℕ
-orders_applied g = total (applied_in (machine_of g)) (machine_of g) (opening_of_group g) (map unfailing g.events)
+orders_applied g = total (applied_in (machine_of g)) (machine_of g) (opening_of_group g) (steps_of g)
 
 -- ---- replies
 
@@ -95,7 +109,7 @@ reply_of g i = reply_at (machine_of g) (common_of g).opening (common_of g).journ
 
 abbrev pub opened : GroupId → List ℕ → Kind → Style → List ℕ → ScriptGroup
 opened id name kind style members =
-    record { id = id; name = name; kind = kind; style = style; members = members; events = []; poisoned = false }
+    record { id = id; name = name; kind = kind; style = style; members = members; happenings = []; poisoned = false }
 
 -- ---- groups by their names and numbers
 

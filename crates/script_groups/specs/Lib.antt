@@ -1,4 +1,5 @@
 pub mod Lists
+pub mod Histories
 pub mod Groups
 pub mod Standing
 pub mod Viewing

@@ -9,6 +9,6 @@ seen g = record {
   kind = g.kind;
   style = g.style;
   members = g.members;
-  events = g.history;
+  happenings = g.history;
   poisoned = g.poisoned;
 }

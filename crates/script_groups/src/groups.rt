@@ -1,16 +1,18 @@
-ghost use Rattle.std.specs.Prelude.{◌≡◌, ◌<◌, Some, IfOk, option_copied, length};
+ghost use Rattle.std.specs.Prelude.{◌≡◌, ◌<◌, Some, IfOk, OnErr, OnOk, option_copied, length};
 ghost use Rattle.std.specs.List.{AllByRecursion};
 ghost use Rattle.ft_base.specs.Members.{AreDifferent};
 ghost use Rattle.ft_base.specs.declared.limits.TheConstants.{HOST_LIMIT};
 ghost use Rattle.group_model.specs.Views.{newest_view};
 ghost use Rattle.script_groups.specs.Acting.{MayCome, IsActed, IsKept, IsSoundGroup};
-ghost use Rattle.script_groups.specs.Groups.{common_of, opened, signature_of};
+ghost use Rattle.script_groups.specs.Groups.{common_of, failing, opened, signature_of};
 ghost use Rattle.group_core.specs.Telling.{shown_view};
 ghost use Rattle.script_groups.specs.Standing.{IsStanding};
+ghost use Rattle.script_groups.specs.declared.happenings.Happening.TheVariants as happenings;
 
+use crate::happenings::Happening;
 use ft_base::{GroupId, Members, Name, NoMemory, Signature, Steps, Style, Tick, Version, View};
 use ft_outside::MemKeeper;
-use group_core::{GroupCore, cores_tell, is_short, unfailing_logs_show_no_fault};
+use group_core::{GroupCore, cores_tell, is_short, turns_are_as_foretold};
 use group_model::{Event, GroupAnswer, groups_grow};
 use past_events::PastEvents;
 use shipped_servants::{Kind, Shipped};
@@ -19,11 +21,11 @@ use std::marker::Model;
 use std::snapshot::Snapshot;
 use std::sync::ledger::Ledger;
 
-/// A group of a script. Contracts see it as how it opened and the events that it has had since; the core
-/// stands for the plain group that these make.
+/// A group of a script. Contracts see it as how it opened and what has happened to it since; the core stands for
+/// the plain group that this makes.
 ///
 /// Where memory is wanted in an event the group is poisoned: what its core holds is no longer that of its
-/// events.
+/// history.
 #[derive(Drop)]
 pub struct ScriptGroup {
     id: GroupId,
@@ -31,7 +33,7 @@ pub struct ScriptGroup {
     kind: Kind,
     style: Style,
     members: Members,
-    history: PastEvents<Event>,
+    history: PastEvents<Happening>,
     poisoned: bool,
     core: GroupCore<Shipped, MemKeeper>,
 }
@@ -46,6 +48,19 @@ impl Model for ScriptGroup {
     ghost view = { seen };
 
     ghost invariant = { λ g. StandsUnlessPoisoned g.core (seen g) };
+}
+
+/// An event as what happens, and the event.
+fn happening_of(event: Event) -> (Snapshot<Happening>, Event)
+    ensures happening { result.0.value ≡ happenings.Event event }
+    ensures event { result.1 ≡ event }
+{
+    let happening = Happening::Event(event);
+    let past = Snapshot::of(&happening);
+    match happening {
+        Happening::Event(event) => (past, event),
+        Happening::FailNext => unreachable!(),
+    }
 }
 
 impl ScriptGroup {
@@ -192,9 +207,9 @@ impl ScriptGroup {
         requires may { MayCome self.old event }
         ensures { IsActed self.old event result self.new steps.old steps.new }
     {
-        unfailing_logs_show_no_fault();
+        turns_are_as_foretold();
         groups_grow();
-        let past = Snapshot::of(&event);
+        let (past, event) = happening_of(event);
         let answer = self.core.act(alloc, event, steps);
         if is_short(&answer) {
             self.poisoned = true;
@@ -202,5 +217,20 @@ impl ScriptGroup {
         }
         self.history.push(past);
         answer
+    }
+
+    /// Makes its log's next write fail.
+    pub fn fail_next(&mut self) -> Result<(), NoMemory>
+        requires { IsKept self.old }
+        ensures failing { OnOk result (self.new ≡ failing self.old) }
+        ensures left { OnErr result (self.new ≡ self.old) }
+    {
+        match self.core.fail_next() {
+            Ok(()) => {
+                self.history.push(Snapshot::of(&Happening::FailNext));
+                Ok(())
+            }
+            Err(NoMemory) => Err(NoMemory),
+        }
     }
 }

@@ -1,5 +1,5 @@
 //! How a group of a script goes on. The functions do nothing: their contracts are facts.
-ghost use Rattle.script_groups.specs.Laws.{AnswersAreInForm, CallsAreCounted, CallsGoOn, EventsLast, GroupsGrow, GroupsStaySound, HistoriesGoOn, JournalsAcceptOnce, NoneCalledYet, RepliesStay, SentMayCome, ShownAreViews, TakersAreInside, TakersMayTake, UpdatersMaySend};
+ghost use Rattle.script_groups.specs.Laws.{AnswersAreInForm, CallsAreCounted, CallsGoOn, EventsLast, FailingLetsCome, FailingStaysSound, FailuresChangeNothing, FailuresComeOnce, GroupsGrow, GroupsStaySound, HistoriesGoOn, JournalsAcceptOnce, NoneCalledYet, RepliesStay, SentMayCome, ShownAreViews, TakersAreInside, TakersMayTake, UpdatersMaySend};
 
 use group_model::{
     agreement_lasts, answers_are_given, groups_grow, groups_stay_sound, journals_stay,
@@ -19,7 +19,16 @@ pub fn groups_go_on()
     what_is_sent_agrees();
 }
 
-/// Whatever events a group has, its journal and its views only get more, an entry's reply stays what it is, and
+/// A failure of its log's next write that is asked for leaves the plain group as it is, and calls no servant. It comes
+/// at that write, and once.
+pub fn failures_come_once()
+    ensures same { FailuresChangeNothing }
+    ensures sound { FailingStaysSound }
+    ensures come { FailingLetsCome }
+    ensures once { FailuresComeOnce }
+{}
+
+/// Whatever happens to a group, its journal and its views only get more, an entry's reply stays what it is, and
 /// each request is accepted at most once before its expiration.
 pub fn groups_keep_entries()
     ensures grow { GroupsGrow }

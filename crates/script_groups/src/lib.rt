@@ -23,6 +23,7 @@
 #![tactic(auto)]
 
 mod groups;
+mod happenings;
 mod laws;
 mod reading;
 mod references;
@@ -30,7 +31,8 @@ mod showing;
 mod taking;
 
 pub use groups::ScriptGroup;
+pub use happenings::Happening;
 pub use laws::{
-    answers_are_in_form, calls_are_counted, groups_go_on, groups_keep_entries, shown_are_views,
-    takers_may_take,
+    answers_are_in_form, calls_are_counted, failures_come_once, groups_go_on, groups_keep_entries,
+    shown_are_views, takers_may_take,
 };

@@ -1,3 +1,4 @@
+pub mod Calm
 pub mod Doing
 pub mod Going
 pub mod Longer

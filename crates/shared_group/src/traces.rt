@@ -9,7 +9,7 @@ ghost use Rattle.shared_group.specs.Books.{CountsFaults};
 
 use ft_base::{Servant, Steps};
 use ft_outside::Keeper;
-use group_core::{GroupCore, acts_are_steps, log_faults_are_counted, unfailing_logs_show_no_fault};
+use group_core::{GroupCore, acts_are_steps, log_faults_are_counted};
 use group_model::{Event, GroupAnswer};
 use past_events::PastEvents;
 use std::alloc::Global;
@@ -56,7 +56,6 @@ fn act_counted<S: Servant + Drop, K: Keeper, L: Ledger>(
 {
     acts_are_steps();
     log_faults_are_counted();
-    unfailing_logs_show_no_fault();
     let mut steps = Steps::<L>::new(blank);
     core.act(alloc, event, &mut steps)
 }

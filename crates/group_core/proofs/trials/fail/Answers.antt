@@ -1,5 +1,5 @@
-use Rattle.group_core.proofs.Trying.{goes_on_planned}
+use Rattle.group_core.proofs.Trying.{opened}
 use Rattle.group_core.proofs.trials.fail.Goals as goal
 
 pub returns : goal.returns
-returns g c = goes_on_planned c.logs_go_on.ensures.beside g.S.Servant.machine c.args.trial.now.core c.fail_next.new.self _ c.requires c.in_ok-fail_next.ensures.planned
+returns g c = opened g.S.Servant.machine c.fail_next.new.self c.requires.group (c.fail_next.ensures.stands c.requires.group c.requires.stands)

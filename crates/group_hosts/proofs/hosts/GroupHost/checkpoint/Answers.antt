@@ -11,7 +11,7 @@ returns-in-Err-clause-turn g c = λ group here.
     let machines = g.S.Servant.machine in
     let here' = rw (← c.self.view_is) at here in
     let unready = c.in-Err.ensures.stopped group.common (group.hosts c.args.host.0) c.args.founding.now.style here in
-    short_unready machines group _ (events.Checkpoint c.args.host c.args.clock) _ here' _ (checkpoint_takes machines group _ c.args.host _ here' c.if-not-self.false c.args.clock)
+    short_unready machines group _ (events.Checkpoint c.args.host c.args.clock) _ here' (checkpoint_takes machines group _ c.args.host _ here' c.if-not-self.false c.args.clock)
     c.args.steps.now c.prepare.new.steps unready.1 c.prepare.new.log c.prepare.new.self unready.0
 
 pub take_checkpoint-requires : goal.take_checkpoint-requires
