@@ -146,6 +146,7 @@ setting_text (settings.InvalidProperty place) = with_number (codes "InvalidPrope
 setting_text (settings.UnsupportedProperty place) = with_number (codes "UnsupportedProperty") place
 setting_text (settings.InvalidCriteria place) = with_number (codes "InvalidCriteria") place
 setting_text (settings.CannotMeetCriteria initial minimum) = with_numbers (codes "CannotMeetCriteria") initial minimum
+setting_text (settings.TooFew fit minimum) = with_numbers (codes "TooFew") fit minimum
 
 -- why a subscriber is refused
 abbrev pub subscribe_text : SubscribeFault → List ℕ

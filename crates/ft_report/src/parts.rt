@@ -378,6 +378,9 @@ pub fn push_setting(text: &mut Vec<u8>, fault: SettingFault) -> Result<(), NoMem
                 u64::from(minimum),
             )
         }
+        SettingFault::TooFew { fit, minimum } => {
+            push_numbers(text, b"TooFew", u64::from(fit), u64::from(minimum))
+        }
     }
 }
 

@@ -55,6 +55,8 @@ pub enum SettingFault {
     InvalidCriteria(u32),
     /// As many members as the group begins with are fewer than the least that it may have.
     CannotMeetCriteria { initial: u16, minimum: u16 },
+    /// So many hosts as can make the group's first members are fewer than the least that it may have.
+    TooFew { fit: u16, minimum: u16 },
 }
 
 /// Why a subscriber is refused. It is none then.

@@ -1,5 +1,5 @@
 -- Which objects a factory makes, and why it makes none. (Chapter 23, GenericFactory.)
-use Rattle.std.specs.Prelude.{◌≡◌, ◌≢◌, ◌⊎◌, ℕ, ◌+◌, false, nat_lt, nat_le, if◌then◌else◌, List, [], ◌∷◌, Option, Some, None, count_by, is_some, slice_index_or, Result, Ok, Err}
+use Rattle.std.specs.Prelude.{◌≡◌, ◌≢◌, ◌⊎◌, ℕ, ◌+◌, false, nat_lt, nat_le, if◌then◌else◌, List, [], ◌∷◌, length, Option, Some, None, count_by, is_some, slice_index_or, Result, Ok, Err}
 use Rattle.shipped_servants.specs.Kinds.{kind_with, kind_of, number_of, state_of_shipped, opening_of}
 use Rattle.shipped_servants.specs.declared.kinds.Kind.{Kind}
 use Rattle.shipped_servants.specs.declared.shipped.Shipped.{Shipped}
@@ -8,6 +8,7 @@ use Rattle.property_manager.specs.declared.settings.Property.{Property}
 use Rattle.property_manager.specs.Judging.{first_place, is_invalid, is_refused}
 use Rattle.property_manager.specs.Levels.{effective}
 use Rattle.property_manager.specs.Numbers.{replicas}
+use Rattle.property_manager.specs.Styles.{is_infrastructure}
 use Rattle.generic_factory.specs.declared.faults.CreateFault.{CreateFault}
 use Rattle.generic_factory.specs.declared.faults.CreateFault.TheVariants as faults
 use Rattle.generic_factory.specs.declared.faults.ObjectNotFound.{ObjectNotFound}
@@ -47,6 +48,16 @@ abbrev pub number_refusal : List Property → Option CreateFault
 number_refusal criteria =
     unmet (replicas (effective (criteria ∷ []) names.InitialNumberReplicas)) (replicas (effective (criteria ∷ []) names.MinimumNumberReplicas))
 
+abbrev pub fewer : ℕ → Option ℕ → Option CreateFault
+fewer fit None = None
+fewer fit (Some minimum) = if nat_lt fit minimum then Some (faults.TooFew fit minimum) else None
+
+-- fewer hosts fit than are to stay, where the infrastructure is to make the members
+abbrev pub fit_refusal : List Property → List ℕ → Option CreateFault
+fit_refusal criteria fit =
+    if is_infrastructure (effective (criteria ∷ []) names.MembershipStyle)
+    then fewer (length fit) (replicas (effective (criteria ∷ []) names.MinimumNumberReplicas)) else None
+
 abbrev pub full : ℕ → Option CreateFault
 full made = if nat_le 4096 made then Some (faults.ObjectNotCreated 4096) else None
 
@@ -55,8 +66,9 @@ or_next (Some fault) next = Some fault
 or_next None next = next
 
 -- the first cause of all but the type id
-abbrev pub refusal : List Property → List (Option Kind) → Option CreateFault
-refusal criteria objects = or_next (criteria_refusal criteria) (or_next (number_refusal criteria) (full (count objects)))
+abbrev pub refusal : List Property → List ℕ → List (Option Kind) → Option CreateFault
+refusal criteria fit objects =
+    or_next (criteria_refusal criteria) (or_next (number_refusal criteria) (or_next (fit_refusal criteria fit) (full (count objects))))
 
 -- ---- what calls answer and leave
 
@@ -68,14 +80,14 @@ pub record IsMade (of : Kind) (servant : Shipped) (id : CreationId) (old new : L
   pub put : IsChangedAt id.place (Some of) old new
   pub counted : count new ≡ count old + 1
 
-abbrev pub IsCreatedOf : Option Kind → List Property → List (Option Kind) → Result (Shipped × CreationId) CreateFault → List (Option Kind) → Type 0
-IsCreatedOf None criteria old result new = (result ≡ Err faults.NoFactory) × (new ≡ old)
-IsCreatedOf (Some kind) criteria old (Ok made) new = (refusal criteria old ≡ None) × IsMade kind made.0 made.1 old new
-IsCreatedOf (Some kind) criteria old (Err fault) new = ((fault ≡ faults.NoMemory) ⊎ (refusal criteria old ≡ Some fault)) × (new ≡ old)
+abbrev pub IsCreatedOf : Option Kind → Option CreateFault → List (Option Kind) → Result (Shipped × CreationId) CreateFault → List (Option Kind) → Type 0
+IsCreatedOf None why old result new = (result ≡ Err faults.NoFactory) × (new ≡ old)
+IsCreatedOf (Some kind) why old (Ok made) new = (why ≡ None) × IsMade kind made.0 made.1 old new
+IsCreatedOf (Some kind) why old (Err fault) new = ((fault ≡ faults.NoMemory) ⊎ (why ≡ Some fault)) × (new ≡ old)
 
 -- that no servant has the type id comes first
-abbrev pub IsCreated : List ℕ → List Property → List (Option Kind) → Result (Shipped × CreationId) CreateFault → List (Option Kind) → Type 0
-IsCreated type_id criteria old result new = IsCreatedOf (kind_with type_id) criteria old result new
+abbrev pub IsCreated : List ℕ → List Property → List ℕ → List (Option Kind) → Result (Shipped × CreationId) CreateFault → List (Option Kind) → Type 0
+IsCreated type_id criteria fit old result new = IsCreatedOf (kind_with type_id) (refusal criteria fit old) old result new
 
 abbrev pub IsDeletedAt : ℕ → Option Kind → List (Option Kind) → Result (Unit {0}) ObjectNotFound → List (Option Kind) → Type 0
 IsDeletedAt place None old result new = (result ≡ Err (record {})) × (new ≡ old)

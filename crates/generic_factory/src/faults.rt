@@ -16,6 +16,9 @@ pub enum CreateFault {
     /// More replicas are to stay than are to be made at first.
     #[error("{initial} replicas are fewer than {minimum}")]
     CannotMeetCriteria { initial: u16, minimum: u16 },
+    /// Fewer hosts can make a replica than are to stay, where the infrastructure makes them.
+    #[error("{fit} hosts are fewer than {minimum}")]
+    TooFew { fit: u16, minimum: u16 },
     /// There are as many objects as there can be: this many.
     #[error("there are {0} objects already")]
     ObjectNotCreated(u32),

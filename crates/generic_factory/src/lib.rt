@@ -10,7 +10,7 @@
 //! let criteria = two(alloc, first, second)?;
 //! Ok(
 //!     factory
-//!         .create_object(alloc, &type_id, criteria.as_slice())
+//!         .create_object(alloc, &type_id, criteria.as_slice(), &Members::new())
 //!         .err(),
 //! )
 //! ```

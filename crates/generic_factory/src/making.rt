@@ -3,12 +3,13 @@ ghost use Rattle.slab.specs.Slab.{Updates, get, slab_len};
 ghost use Rattle.shipped_servants.specs.Kinds.{kind_with};
 ghost use Rattle.shipped_servants.specs.declared.kinds.Kind.{Kind as OfKind};
 ghost use Rattle.generic_factory.specs.declared.faults.CreateFault.{CreateFault as Fault};
-ghost use Rattle.generic_factory.specs.Creating.{count, criteria_refusal, full, number_refusal, object_at, refusal, unmet, IsChangedAt, IsCreated, IsDeleted, IsMade};
+ghost use Rattle.generic_factory.specs.Creating.{count, criteria_refusal, fewer, fit_refusal, full, number_refusal, object_at, refusal, unmet, IsChangedAt, IsCreated, IsDeleted, IsMade};
 
 use crate::faults::{CreateFault, ObjectNotFound};
-use ft_base::{Name, NoMemory};
+use ft_base::{Members, Name, NoMemory};
 use property_manager::{
-    Property, PropertyFault, PropertyName, effective_in, judge_criteria, number_of_replicas,
+    MembershipStyle, Property, PropertyFault, PropertyName, effective_in, judge_criteria,
+    number_of_replicas,
 };
 use shipped_servants::{Kind, Shipped};
 use slab::Slab;
@@ -77,6 +78,28 @@ fn number_refusal(criteria: &[Property]) -> Option<CreateFault>
     unmet(number_of_replicas(initial), number_of_replicas(minimum))
 }
 
+fn fewer(fit: u16, minimum: Option<u16>) -> Option<CreateFault>
+    ensures { result ≡ fewer fit minimum }
+{
+    let minimum = minimum?;
+    if fit < minimum {
+        Some(CreateFault::TooFew { fit, minimum })
+    } else {
+        None
+    }
+}
+
+/// Whether fewer hosts fit than are to stay, where the infrastructure is to make the members.
+fn fit_refusal(criteria: &[Property], fit: &Members) -> Option<CreateFault>
+    ensures { result ≡ fit_refusal criteria.now fit.now }
+{
+    if !MembershipStyle::is_infrastructure(effective_in(criteria, PropertyName::MembershipStyle)) {
+        return None;
+    }
+    let minimum = effective_in(criteria, PropertyName::MinimumNumberReplicas);
+    fewer(fit.len() as u16, number_of_replicas(minimum))
+}
+
 /// Puts an object at a place that is free.
 fn put(objects: &mut Slab<Kind>, kind: Kind) -> Result<usize, NoMemory>
     ensures free { IfOk result (λ place. object_at objects.old.slots place ≡ None) }
@@ -118,14 +141,17 @@ impl Factory {
     }
 
     /// Why no object is made of a type that there is.
-    fn refusal(&self, criteria: &[Property]) -> Option<CreateFault>
+    fn refusal(&self, criteria: &[Property], fit: &Members) -> Option<CreateFault>
         requires { length criteria.now ≤ 2 ^ 32 }
-        ensures { result ≡ refusal criteria.now self.now }
+        ensures { result ≡ refusal criteria.now fit.now self.now }
     {
         if let Some(fault) = criteria_refusal(criteria) {
             return Some(fault);
         }
         if let Some(fault) = number_refusal(criteria) {
+            return Some(fault);
+        }
+        if let Some(fault) = fit_refusal(criteria, fit) {
             return Some(fault);
         }
         self.full()
@@ -144,23 +170,26 @@ impl Factory {
         }
     }
 
-    /// Makes an object of the type with this id, in its opening state. It is refused by the first of
-    /// these: no servant has the type id; a criterion is invalid; one is unsupported; the minimum number
-    /// of replicas is above the initial one; the factory is full.
+    /// Makes an object of the type with this id, in its opening state. `fit` are the hosts on which the
+    /// infrastructure can make a group's first members. It is refused by the first of these: no servant has
+    /// the type id; a criterion is invalid; one is unsupported; the minimum number of replicas is above the
+    /// initial one; the infrastructure is to make the members, and fewer hosts fit than that minimum; the
+    /// factory is full.
     pub fn create_object(
         &mut self,
         alloc: Global,
         type_id: &Name,
         criteria: &[Property],
+        fit: &Members,
     ) -> Result<(Shipped, CreationId), CreateFault>
         requires { length criteria.now ≤ 2 ^ 32 }
-        ensures made { IsCreated type_id.now criteria.now self.old result self.new }
-        ensures refused { (kind : OfKind) → kind_with type_id.now ≡ Some kind → (why : Fault) → refusal criteria.now self.old ≡ Some why → result ≡ Err why }
+        ensures made { IsCreated type_id.now criteria.now fit.now self.old result self.new }
+        ensures refused { (kind : OfKind) → kind_with type_id.now ≡ Some kind → (why : Fault) → refusal criteria.now fit.now self.old ≡ Some why → result ≡ Err why }
     {
         let Some(kind) = Kind::with_type_id(type_id.bytes()) else {
             return Err(CreateFault::NoFactory);
         };
-        if let Some(fault) = self.refusal(criteria) {
+        if let Some(fault) = self.refusal(criteria, fit) {
             return Err(fault);
         }
         match self.make(alloc, kind) {

@@ -1,7 +1,7 @@
 ghost use Rattle.std.specs.Prelude.{◌≤◌, length, IfOk};
 
 use crate::{CreateFault, CreationId, Factory, ObjectNotFound};
-use ft_base::{Bytes, Name, NoMemory};
+use ft_base::{Bytes, Members, Name, NoMemory};
 use property_manager::{Property, PropertyValue};
 use shipped_servants::Shipped;
 use std::alloc::Global;
@@ -38,7 +38,7 @@ fn two(alloc: Global, first: &Row, second: &Row) -> Result<Vec<Property>, NoMemo
     Ok(list)
 }
 
-/// What creating an object of a type with two criteria answers, where it is refused.
+/// What creating an object of a type with two criteria answers, where it is refused; no host fits.
 fn refused(
     alloc: Global,
     factory: &mut Factory,
@@ -50,7 +50,7 @@ fn refused(
     let criteria = two(alloc, first, second)?;
     Ok(
         factory
-            .create_object(alloc, &type_id, criteria.as_slice())
+            .create_object(alloc, &type_id, criteria.as_slice(), &Members::new())
             .err(),
     )
 }
@@ -61,7 +61,7 @@ fn is_store(servant: &Shipped) -> bool {
 
 fn made(alloc: Global, factory: &mut Factory, type_id: &Name) -> Result<CreationId, CreateFault> {
     let criteria: Vec<Property> = Vec::new(alloc);
-    match factory.create_object(alloc, type_id, criteria.as_slice()) {
+    match factory.create_object(alloc, type_id, criteria.as_slice(), &Members::new()) {
         Err(fault) => Err(fault),
         Ok(made) => {
             let (servant, id) = made;
@@ -83,6 +83,7 @@ fn create_refusals(rt: HostRuntime) -> Result<(), NoMemory> {
     let initial: Row = (b"org.omg.ft.InitialNumberReplicas", b"2");
     let minimum: Row = (b"org.omg.ft.MinimumNumberReplicas", b"3");
     let style: Row = (b"org.omg.ft.ReplicationStyle", b"ACTIVE");
+    let infrastructure: Row = (b"org.omg.ft.MembershipStyle", b"MEMB_INF_CTRL");
     let clock = b"IDL:ftc/Clock:1.0".as_slice();
     let below = CreateFault::CannotMeetCriteria {
         initial: 2,
@@ -105,6 +106,11 @@ fn create_refusals(rt: HostRuntime) -> Result<(), NoMemory> {
     );
     assert!(rt; refused(alloc, &mut factory, STORE, &minimum, &initial)? == Some(below));
     assert!(rt; refused(alloc, &mut factory, STORE, &minimum, &style)? == Some(built_in));
+    assert!(rt; refused(alloc, &mut factory, STORE, &minimum, &infrastructure)? == Some(built_in));
+    assert!(rt;
+        refused(alloc, &mut factory, STORE, &initial, &infrastructure)?
+            == Some(CreateFault::TooFew { fit: 0, minimum: 1 })
+    );
     assert!(rt; refused(alloc, &mut factory, STORE, &initial, &style)?.is_none());
     assert_eq!(rt; factory.len(), 1);
     Ok(())

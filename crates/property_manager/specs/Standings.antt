@@ -45,7 +45,7 @@ of_replication_style text = replicated (replication_style text)
 abbrev pub made : Option MembershipStyle → Standing
 made None = standings.Unlisted
 made (Some membership.Application) = standings.Supported
-made (Some membership.Infrastructure) = standings.Unsupported
+made (Some membership.Infrastructure) = standings.Supported
 
 abbrev pub of_membership_style : List ℕ → Standing
 of_membership_style text = made (membership_style text)

@@ -1,5 +1,5 @@
 -- The values that are words. (Chapter 23, "Fault Tolerance Properties".)
-use Rattle.std.specs.Prelude.{ℕ, if◌then◌else◌, List, [], ◌∷◌, Option, Some, None, codes}
+use Rattle.std.specs.Prelude.{ℕ, Bool, true, false, if◌then◌else◌, List, [], ◌∷◌, Option, Some, None, codes}
 use Rattle.std.specs.Str.{bytes_eq}
 use Rattle.ft_base.specs.declared.views.Style.{Style}
 use Rattle.ft_base.specs.declared.views.Style.TheVariants as styles
@@ -36,6 +36,15 @@ supported_style replication.ActiveWithVoting = None
 unfoldable pub membership_style : List ℕ → Option MembershipStyle
 membership_style text =
     said ((codes "MEMB_APP_CTRL", membership.Application) ∷ (codes "MEMB_INF_CTRL", membership.Infrastructure) ∷ []) text
+
+-- the infrastructure makes and removes members
+abbrev pub is_infrastructure_style : Option MembershipStyle → Bool
+is_infrastructure_style None = false
+is_infrastructure_style (Some membership.Application) = false
+is_infrastructure_style (Some membership.Infrastructure) = true
+
+abbrev pub is_infrastructure : List ℕ → Bool
+is_infrastructure text = is_infrastructure_style (membership_style text)
 
 unfoldable pub consistency_style : List ℕ → Option ConsistencyStyle
 consistency_style text =

@@ -4,7 +4,7 @@ ghost use Rattle.std.specs.List.{slice_split};
 ghost use Rattle.std.specs.Str.{bytes_eq};
 ghost use Rattle.ft_base.specs.Members.{is_member};
 ghost use Rattle.property_manager.specs.Numbers.{host};
-ghost use Rattle.property_manager.specs.Hosts.{factories, hosts_from, is_comma, with_host};
+ghost use Rattle.property_manager.specs.Hosts.{AreHosts, factories, hosts_from, is_comma, with_host};
 
 use crate::numbers::{behind, bounded, front};
 use arrayvec::ArrayVec;
@@ -70,7 +70,8 @@ impl Hosts {
 
     /// The host numbers, in order.
     pub fn hosts(&self) -> &[u8]
-        ensures { result.now ≡ self.now }
+        ensures value { result.now ≡ self.now }
+        ensures hosts { AreHosts self.now }
     {
         self.hosts.as_slice()
     }

@@ -70,7 +70,7 @@ fn of_membership_style(text: &[u8]) -> Standing
     match MembershipStyle::of(text) {
         None => Standing::Unlisted,
         Some(MembershipStyle::Application) => Standing::Supported,
-        Some(MembershipStyle::Infrastructure) => Standing::Unsupported,
+        Some(MembershipStyle::Infrastructure) => Standing::Supported,
     }
 }
 

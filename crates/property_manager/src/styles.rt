@@ -105,6 +105,17 @@ impl MembershipStyle {
         }
         None
     }
+
+    /// Whether a value says that the infrastructure makes and removes members.
+    pub fn is_infrastructure(text: &[u8]) -> bool
+        ensures { result ≡ words.is_infrastructure text.now }
+    {
+        match MembershipStyle::of(text) {
+            None => false,
+            Some(MembershipStyle::Application) => false,
+            Some(MembershipStyle::Infrastructure) => true,
+        }
+    }
 }
 
 impl ConsistencyStyle {

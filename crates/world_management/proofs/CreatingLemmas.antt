@@ -111,8 +111,9 @@ front {A = A} f before (x ∷ xs) ys none = go (f before x) (front f (before ++ 
     go false behind e = behind e
 
 -- criteria that a factory takes, with others behind them, are taken
-pub criteria_taken : (criteria more : List Property) (objects : List _) → factories.refusal (criteria ++ more) objects ≡ None → refusal false criteria ≡ None
-criteria_taken criteria more objects none =
+criteria_taken : (criteria more : List Property) (rest : Option CreateFault) →
+    factories.or_next (factories.criteria_refusal (criteria ++ more)) rest ≡ None → refusal false criteria ≡ None
+criteria_taken criteria more rest none =
     go (first_place is_invalid [] (criteria ++ more)) (first_place (is_refused false) [] (criteria ++ more))
     (front is_invalid [] criteria more) (front (is_refused false) [] criteria more) none
   where
@@ -120,16 +121,15 @@ criteria_taken criteria more objects none =
     both i u e f = ap (λ (o : Option ℕ). refused_at o u) e ∙ ap (λ (o : Option ℕ). refused_at None o) f
 
     go : (i u : Option ℕ) → (i ≡ None → first_place is_invalid [] criteria ≡ None) → (u ≡ None → first_place (is_refused false) [] criteria ≡ None) →
-        factories.or_next (factories.refused_at i u) (factories.or_next (factories.number_refusal (criteria ++ more)) (factories.full (factories.count objects))) ≡ None →
-        refusal false criteria ≡ None
+        factories.or_next (factories.refused_at i u) rest ≡ None → refusal false criteria ≡ None
     go None None invalid unsupported e = both _ _ (invalid refl) (unsupported refl)
     go None (Some p) invalid unsupported e = absurd cc
     go (Some p) u invalid unsupported e = absurd cc
 
-pub created_taken : (criteria more full given : List Property) (why : Option CreateFault) → full ≡ criteria ++ more → given ≡ full → why ≡ factories.refusal given [] → why ≡ None →
-    refusal false criteria ≡ None
-created_taken criteria more full given why is same judged none =
-    criteria_taken criteria more [] (ap (λ (ps : List Property). factories.refusal ps []) (sym (same ∙ is)) ∙ sym judged ∙ none)
+pub created_taken : (criteria more full given : List Property) (fit : List ℕ) (why : Option CreateFault) → full ≡ criteria ++ more → given ≡ full →
+    why ≡ factories.refusal given fit [] → why ≡ None → refusal false criteria ≡ None
+created_taken criteria more full given fit why is same judged none =
+    criteria_taken criteria more _ (ap (λ (ps : List Property). factories.refusal ps fit []) (sym (same ∙ is)) ∙ sym judged ∙ none)
 
 -- a style is a criterion that is taken
 pub style_taken : (style : Style) → refusal false (style_criteria style) ≡ None

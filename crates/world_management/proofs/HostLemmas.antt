@@ -26,12 +26,12 @@ module _ (w : World) (number : ℕ) (host : HostNo) (there : is_there w number �
       ∙ ap (λ (n : ℕ). goes (e (host_no n))) (sym is)
 
   module _ (place : ℕ) (g : ScriptGroup) (report : List ReportLine) (new : World) (before now : ℕ) where
-    pub change_goes : (change : MemberChange) (asked : Change) → asked ≡ change_of change host → HasDone (changes_members w (placed place g) asked host) report new before now →
+    pub change_goes : (change : MemberChange) (asked : Change) → asked ≡ change_of w g change host → HasDone (changes_members w (placed place g) asked host) report new before now →
         (change_to w (There (placed place g)) change number ≡ Goes new report (calls_of (change_to w (There (placed place g)) change number)))
         × (now ≡ before + calls_of (change_to w (There (placed place g)) change number))
     change_goes change asked asks done =
-        acts_by (change_to w (There (placed place g)) change number) (changes_members w (placed place g) (change_of change host) host) report new before now
-        (on_there (λ h. changes_members w (placed place g) (change_of change h) h))
+        acts_by (change_to w (There (placed place g)) change number) (changes_members w (placed place g) (change_of w g change host) host) report new before now
+        (on_there (λ h. changes_members w (placed place g) (change_of w g change h) h))
         (subst (λ (c : Change). HasDone (changes_members w (placed place g) c host) report new before now) asks done)
 
     pub grow_goes : (asked : Change) → asked ≡ creation w g host.0 → HasDone (changes_members w (placed place g) asked host) report new before now →

@@ -1,4 +1,5 @@
 pub mod HostLemmas
 pub mod MakingLemmas
+pub mod MembershipLemmas
 pub mod CreatingLemmas
 pub mod SettingLemmas

@@ -10,7 +10,8 @@ use Rattle.ft_report.specs.declared.reports.ReportLine.{ReportLine}
 use Rattle.group_model.specs.Openings.{first_view}
 use Rattle.group_model.specs.Runs.{after_steps}
 use Rattle.group_model.specs.Views.{newest_view}
-use Rattle.script_groups.specs.Groups.{ScriptGroup, common_of, group_of, opened}
+use Rattle.script_groups.specs.Groups.{ScriptGroup, common_of, group_of, opened, steps_of}
+use Rattle.script_groups.specs.Histories.{with_all}
 use Rattle.shipped_servants.specs.declared.kinds.Kind.{Kind}
 use Rattle.script_world.specs.World.{up_of}
 use Rattle.script_world.specs.declared.hosts.HostState.{HostState}
@@ -76,7 +77,7 @@ or_right : (a b : Bool) → (a || b) ≡ false → b ≡ false
 or_right true b e = absurd cc
 or_right false b e = e
 
-or_both : (a b : Bool) → a ≡ false → b ≡ false → (a || b) ≡ false
+pub or_both : (a b : Bool) → a ≡ false → b ≡ false → (a || b) ≡ false
 or_both true b e f = e
 or_both false b e f = f
 
@@ -123,7 +124,7 @@ all_there (h ∷ hs) n limit few all = (below h n limit few (and_left _ _ all), 
 
 first_is : (id : GroupId) (name : List ℕ) (kind : Kind) (style : Style) (members : List ℕ) →
     newest_view (common_of (opened id name kind style members)) ≡ first_view style members
-unfolding group_of after_steps
+unfolding group_of steps_of with_all after_steps
 first_is id name kind style members = refl
 
 pub made_lines : (n count : ℕ) (name : List ℕ) (kind : Kind) (style : Style) (members : List ℕ) (g : ScriptGroup) (report : List ReportLine) →

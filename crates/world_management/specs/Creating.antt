@@ -1,6 +1,6 @@
 -- Groups that are made by criteria, members that a host's factory makes, and groups that are deleted.
 -- (Chapter 23, GenericFactory, `create_object`, `create_member`, `delete_object`.)
-use Rattle.std.specs.Prelude.{ℕ, ◌++◌, not, Bool, false, nat_le, nat_lt, if◌then◌else◌, List, [], ◌∷◌, length, Option, Some, None}
+use Rattle.std.specs.Prelude.{ℕ, ◌++◌, not, Bool, nat_le, List, [], ◌∷◌, length, Option, Some, None}
 use Rattle.std.specs.List.{filter}
 use Rattle.std.specs.Option.{option_and_then, unwrap_or}
 use Rattle.ft_base.specs.Members.{is_member}
@@ -15,24 +15,22 @@ use Rattle.ft_report.specs.declared.reports.SettingFault.TheVariants as settings
 use Rattle.generic_factory.specs.Creating.{refusal}
 use Rattle.generic_factory.specs.declared.faults.CreateFault.{CreateFault}
 use Rattle.generic_factory.specs.declared.faults.CreateFault.TheVariants as faults
-use Rattle.generic_factory.specs.declared.making.TheConstants.{OBJECT_LIMIT}
 use Rattle.group_model.specs.declared.changes.Change.{Change}
 use Rattle.group_model.specs.declared.changes.Change.TheVariants as changes
-use Rattle.group_model.specs.Views.{host_no, newest_view}
-use Rattle.property_manager.specs.declared.effective.Levels.{Levels}
+use Rattle.group_model.specs.Views.{host_no}
 use Rattle.property_manager.specs.declared.names.PropertyName.TheVariants as names
 use Rattle.property_manager.specs.declared.settings.Property.{Property}
-use Rattle.property_manager.specs.Groups.{Settings, group_of, level_of, levels_of}
-use Rattle.property_manager.specs.Hosts.{factories}
+use Rattle.property_manager.specs.Groups.{Settings, level_of}
 use Rattle.property_manager.specs.Levels.{all_effective, effective, has_name}
 use Rattle.property_manager.specs.Styles.{replication_style, supported_style}
-use Rattle.script_groups.specs.Groups.{ScriptGroup, common_of}
-use Rattle.script_world.specs.World.{World, is_deleted, is_named, is_up, without_group}
+use Rattle.script_groups.specs.Groups.{ScriptGroup}
+use Rattle.script_world.specs.World.{World, is_named, without_group}
 use Rattle.script_world.specs.declared.limits.TheConstants.{GROUP_LIMIT}
 use Rattle.shipped_servants.specs.Kinds.{type_id}
 use Rattle.shipped_servants.specs.declared.kinds.Kind.{Kind}
 use Rattle.world_management.specs.Hosts.{changes_members, on_host}
 use Rattle.world_management.specs.Making.{kind_of, made_group}
+use Rattle.world_management.specs.Membership.{can_make, first_members, fit, hosts_of, value_of}
 use Rattle.world_turns.specs.Naming.{Naming, NeverMade, Deleted, There, gone, group_called}
 use Rattle.world_turns.specs.Turns.{Cause, Effect, Turn, Refused, cause, first_cause, goes, says, unless}
 
@@ -59,46 +57,30 @@ abbrev pub creation_refused : CreateFault → List ReportLine
 creation_refused (faults.InvalidCriteria place) = reports.RefusedSetting (settings.InvalidCriteria place) ∷ []
 creation_refused (faults.UnsupportedProperty place) = reports.RefusedSetting (settings.UnsupportedProperty place) ∷ []
 creation_refused (faults.CannotMeetCriteria initial minimum) = reports.RefusedSetting (settings.CannotMeetCriteria initial minimum) ∷ []
+creation_refused (faults.TooFew fit minimum) = reports.RefusedSetting (settings.TooFew fit minimum) ∷ []
 creation_refused other = []
 
 abbrev pub create_causes : World → List ℕ → List Cause
 create_causes w name = cause (is_named w name) Again ∷ cause (nat_le GROUP_LIMIT (length w.groups)) (Limit limits.Groups) ∷ []
 
--- the group has no members yet
-abbrev pub created_unless : Option CreateFault → World → List ℕ → Kind → List Property → Effect
-created_unless (Some why) w name kind criteria = says w (creation_refused why)
-created_unless None w name kind criteria = made_group w name kind (style_in (in_full w.settings kind criteria)) [] criteria
+-- by all its properties
+abbrev pub created_unless : Option CreateFault → World → List ℕ → Kind → List Property → List Property → Effect
+created_unless (Some why) w name kind full criteria = says w (creation_refused why)
+created_unless None w name kind full criteria = made_group w name kind (style_in full) (first_members w full) criteria
 
 abbrev pub created : World → List ℕ → Kind → List Property → Effect
-created w name kind criteria = created_unless (refusal (in_full w.settings kind criteria) []) w name kind criteria
+created w name kind criteria =
+    let full = in_full w.settings kind criteria in
+    created_unless (refusal full (fit w full) []) w name kind full criteria
 
 abbrev pub create_line : World → List ℕ → KindWord → List Property → Turn
 create_line w name kind criteria = unless (first_cause (create_causes w name)) 0 (goes (created w name (kind_of kind) criteria))
 
 -- ---- `grow G H`
 
--- a member of a group is an object of its host's factory, until it leaves or the group is deleted
-abbrev pub has_object : World → ℕ → ScriptGroup → Bool
-has_object w host g = if is_deleted w g then false else is_member host (newest_view (common_of g)).members
-
-abbrev pub objects_at : World → ℕ → ℕ
-objects_at w host = length (filter (has_object w host) w.groups)
-
--- a host makes one more where it is up and its factory isn't full
-abbrev pub can_make : World → ℕ → Bool
-can_make w host = if is_up w host then nat_lt (objects_at w host) OBJECT_LIMIT else false
-
--- the hosts that the group's property Factories lists
-abbrev pub is_listed_in : ℕ → Option (List ℕ) → Bool
-is_listed_in host None = false
-is_listed_in host (Some hosts) = is_member host hosts
-
-abbrev pub listed_by : ℕ → Option Levels → Bool
-listed_by host None = false
-listed_by host (Some levels) = is_listed_in host (factories (effective (levels_of levels) names.Factories))
-
+-- the group's property Factories lists the host
 abbrev pub is_listed : World → ScriptGroup → ℕ → Bool
-is_listed w g host = listed_by host (group_of w.settings.groups g.id.0)
+is_listed w g host = is_member host (hosts_of (value_of w g names.Factories))
 
 abbrev pub creation : World → ScriptGroup → ℕ → Change
 creation w g host = changes.Create (host_no host) (is_listed w g host) (can_make w host)

@@ -20,6 +20,7 @@ use Rattle.script_world.specs.declared.hosts.HostState.{HostState}
 use Rattle.script_world.specs.World.{World, fresh_host, is_there, is_up, with_event, with_fault, with_host}
 use Rattle.shipped_servants.specs.declared.kinds.Kind.{Kind}
 use Rattle.shipped_servants.specs.Kinds.{type_id}
+use Rattle.world_management.specs.Membership.{report_of}
 use Rattle.world_turns.specs.Sending.{all_sent, sent_lines, view_line}
 use Rattle.world_turns.specs.Naming.{Naming, NeverMade, Deleted, There, gone, group_called}
 use Rattle.world_turns.specs.Turns.{Cause, Effect, Turn, Refused, cause, costing, first_cause, goes, says, unless}
@@ -56,11 +57,12 @@ restart_line w host =
 
 -- ---- `add G H`, `remove G H`, `primary G H`, `report G H`
 
-abbrev pub change_of : MemberChange → HostNo → Change
-change_of words.Add host = changes.Add host
-change_of words.Remove host = changes.Remove host
-change_of words.Primary host = changes.Primary host
-change_of words.Report host = changes.Report host
+-- what is asked of the group
+abbrev pub change_of : World → ScriptGroup → MemberChange → HostNo → Change
+change_of w g words.Add host = changes.Add host
+change_of w g words.Remove host = changes.Remove host
+change_of w g words.Primary host = changes.Primary host
+change_of w g words.Report host = report_of w g host
 
 -- the fault of a member of a group of this kind, as subscribers are told of it (chapter 23, Fault Management)
 abbrev pub fault_of : Kind → GroupId → HostNo → FaultEvent
@@ -96,7 +98,7 @@ changes_members w g change host =
 abbrev pub change_to : World → Naming → MemberChange → ℕ → Turn
 change_to w NeverMade change host = Refused Unknown 0
 change_to w (Deleted g) change host = on_host w host (gone w)
-change_to w (There g) change host = on_host w host (changes_members w g (change_of change (host_no host)) (host_no host))
+change_to w (There g) change host = on_host w host (changes_members w g (change_of w g.value change (host_no host)) (host_no host))
 
 abbrev pub change_line : World → MemberChange → List ℕ → ℕ → Turn
 change_line w change group host = change_to w (group_called w group) change host

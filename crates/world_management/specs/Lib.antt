@@ -1,4 +1,5 @@
 pub mod Making
+pub mod Membership
 pub mod Hosts
 pub mod Reading
 pub mod Creating

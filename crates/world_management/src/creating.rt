@@ -1,7 +1,6 @@
 //! Groups that are made by criteria, members that hosts' factories make, and groups that are deleted. (Chapter 23,
 //! GenericFactory.)
 ghost use Rattle.std.specs.Prelude.{◌≡◌, ℕ, ◌<◌, ◌≤◌, ◌^◌, ◌++◌, [], ◌∷◌, false, None, IfOk, OnOk, Some, length, slice_get};
-ghost use Rattle.ft_base.specs.declared.limits.TheConstants.{HOST_LIMIT};
 ghost use Rattle.generic_factory.specs.Creating.{refusal};
 ghost use Rattle.group_model.specs.Changes.{host_of_change, spares_of};
 ghost use Rattle.property_manager.specs.Hosts.{factories};
@@ -10,7 +9,8 @@ ghost use Rattle.script_groups.specs.Groups.{ScriptGroup as Group, placed};
 ghost use Rattle.script_world.specs.Sound.{IsKeptWorld};
 ghost use Rattle.script_world.specs.declared.limits.TheConstants.{GROUP_LIMIT};
 ghost use Rattle.shipped_servants.specs.Kinds.{type_id};
-ghost use Rattle.world_management.specs.Creating.{can_make, create_causes, create_line, created, creation, creation_refused, delete_line, grow_line, grow_to, has_object, in_full, is_listed, is_listed_in, lacking, objects_at, style_in, values_of_kind};
+ghost use Rattle.world_management.specs.Creating.{create_causes, create_line, created, creation, creation_refused, delete_line, grow_line, grow_to, in_full, is_listed, lacking, style_in, values_of_kind};
+ghost use Rattle.world_management.specs.Membership.{fit};
 ghost use Rattle.world_management.specs.Making.{kind_of};
 ghost use Rattle.world_turns.specs.Answers.{Acts, Does};
 ghost use Rattle.world_turns.specs.Naming.{There};
@@ -18,10 +18,11 @@ ghost use Rattle.world_turns.specs.Turns.{first_cause};
 
 use crate::hosts::{change_members, gone_at};
 use crate::making::{kind_of, make_group};
+use crate::membership::{can_make, first_members, fit, value_of};
 use fault_script::{Criteria, KindWord, LimitName, LineFault};
 use ft_base::{HostNo, Members, Name, NoMemory, Steps, Style};
 use ft_report::{ReportLine, ReportLines, SettingFault};
-use generic_factory::{CreateFault, Factory, OBJECT_LIMIT};
+use generic_factory::{CreateFault, Factory};
 use group_model::Change;
 use property_manager::{
     Properties, Property, PropertyName, ReplicationStyle, effective_in, factories, has_name,
@@ -107,13 +108,18 @@ fn in_full(world: &World, kind: Kind, criteria: &[Property]) -> Result<Vec<Prope
 }
 
 // Why a factory that has made nothing makes no object by these criteria.
-fn refusal(alloc: Global, kind: Kind, full: &[Property]) -> Result<Option<CreateFault>, NoMemory>
+fn refusal(
+    alloc: Global,
+    kind: Kind,
+    full: &[Property],
+    fit: &Members,
+) -> Result<Option<CreateFault>, NoMemory>
     requires { length full.now ≤ 2 ^ 32 }
-    ensures { IfOk result (λ why. why ≡ refusal full.now []) }
+    ensures { IfOk result (λ why. why ≡ refusal full.now fit.now []) }
 {
     let type_id = kind.type_name(alloc)?;
     let mut factory = Factory::new(alloc);
-    match factory.create_object(alloc, &type_id, full) {
+    match factory.create_object(alloc, &type_id, full, fit) {
         Ok(_made) => Ok(None),
         Err(CreateFault::NoMemory) => Err(NoMemory),
         Err(why) => Ok(Some(why)),
@@ -144,12 +150,13 @@ fn creation_refused(alloc: Global, why: CreateFault) -> Result<ReportLines, NoMe
         CreateFault::CannotMeetCriteria { initial, minimum } => {
             SettingFault::CannotMeetCriteria { initial, minimum }
         }
+        CreateFault::TooFew { fit, minimum } => SettingFault::TooFew { fit, minimum },
         _ => return Ok(ReportLines::new(alloc)),
     };
     one_line(alloc, ReportLine::RefusedSetting(why))
 }
 
-// A group without members is made by these criteria, unless they are refused.
+// A group is made by these criteria, unless they are refused.
 fn create<L: Ledger>(
     world: &mut World,
     name: Name,
@@ -158,6 +165,7 @@ fn create<L: Ledger>(
     steps: &mut Steps<L>,
 ) -> Result<ReportLines, NoMemory>
     requires room { length world.old.groups < GROUP_LIMIT }
+    requires kept { IsKeptWorld world.old }
     ensures { Does (created world.old name kind criteria.now) result world.new steps.old steps.new }
 {
     let alloc = world.alloc();
@@ -166,11 +174,13 @@ fn create<L: Ledger>(
     if full.len() > CRITERIA_ROOM {
         return Err(NoMemory);
     }
-    match refusal(alloc, kind, full.as_slice())? {
+    let fit = fit(world, full.as_slice());
+    match refusal(alloc, kind, full.as_slice(), &fit)? {
         Some(why) => creation_refused(alloc, why),
         None => {
             let style = style_in(full.as_slice());
-            make_group(world, name, kind, style, Members::new(), criteria, steps)
+            let members = first_members(world, full.as_slice());
+            make_group(world, name, kind, style, members, criteria, steps)
         }
     }
 }
@@ -183,6 +193,7 @@ pub fn create_line<L: Ledger>(
     criteria: &Criteria,
     steps: &mut Steps<L>,
 ) -> Result<ReportLines, LineFault>
+    requires { IsKeptWorld world.old }
     ensures { Acts (create_line world.old name kind criteria.now) result world.old world.new steps.old steps.new }
 {
     if let Some(why) = refuses_creation(world, &name) {
@@ -194,58 +205,14 @@ pub fn create_line<L: Ledger>(
     }
 }
 
-// Whether the host's factory has an object that is a member of the group at this place.
-fn has_object(world: &World, place: usize, host: HostNo) -> bool
-    requires within { place < length world.now.groups }
-    requires kept { IsKeptWorld world.now }
-    ensures { (g : Group) → slice_get world.now.groups place ≡ Some g → result ≡ has_object world.now host.0 g }
-{
-    if world.is_deleted(place) {
-        return false;
-    }
-    world.group(place).newest().members.has(host)
-}
-
-// How many objects a host's factory has.
-fn objects_at(world: &World, host: HostNo) -> usize
-    requires { IsKeptWorld world.now }
-    ensures { result ≡ objects_at world.now host.0 }
-{
-    let mut objects = 0;
-    for place in 0..world.group_count() {
-        if has_object(world, place, host) {
-            objects += 1;
-        }
-    }
-    objects
-}
-
-fn can_make(world: &World, host: HostNo) -> bool
-    requires { IsKeptWorld world.now }
-    ensures { result ≡ can_make world.now host.0 }
-{
-    world.is_up(host) && objects_at(world, host) < OBJECT_LIMIT
-}
-
-// Whether a list of hosts has this one.
-fn is_listed_in(text: &[u8], host: HostNo) -> bool
-    ensures { result ≡ is_listed_in host.0 (factories text.now) }
-{
-    match factories(text) {
-        None => false,
-        Some(hosts) => hosts.has(host),
-    }
-}
-
 // Whether the group's property Factories lists the host.
 fn is_listed(world: &World, place: usize, host: HostNo) -> bool
     requires { place < length world.now.groups }
     ensures { (g : Group) → slice_get world.now.groups place ≡ Some g → result ≡ is_listed world.now g host.0 }
 {
-    let group = world.group(place).id();
-    match world.properties().value(group, PropertyName::Factories) {
+    match factories(value_of(world, place, PropertyName::Factories)) {
         None => false,
-        Some(text) => is_listed_in(text, host),
+        Some(hosts) => hosts.has(host),
     }
 }
 

@@ -3,12 +3,14 @@ ghost use Rattle.std.specs.Prelude.{◌≡◌, ℕ, ◌<◌, [], ◌∷◌, IfOk
 ghost use Rattle.std.specs.List.{AllByRecursion};
 ghost use Rattle.world_turns.specs.Answers.{Acts, Does, DoesMore};
 ghost use Rattle.world_management.specs.Hosts.{change_line, change_of, change_to, changes_members, crash_line, fault_of, on_host, reported_by, restart_line, show_line, with_told};
+ghost use Rattle.world_management.specs.Membership.{report_of};
 ghost use Rattle.world_turns.specs.Naming.{There, gone};
 ghost use Rattle.ft_base.specs.declared.limits.TheConstants.{HOST_LIMIT};
 ghost use Rattle.script_world.specs.Sound.{IsKeptWorld};
 ghost use Rattle.group_model.specs.Changes.{host_of_change, spares_of};
 ghost use Rattle.script_groups.specs.Groups.{ScriptGroup as Group, placed};
 
+use crate::membership::report_of;
 use fault_notifier::FaultEvent;
 use fault_script::{LineFault, MemberChange};
 use ft_base::{GroupId, HostNo, Name, NoMemory, Steps};
@@ -21,15 +23,19 @@ use std::alloc::Global;
 use std::sync::ledger::Ledger;
 use world_turns::{Named, gone, group_called, one_line, push_view, send_all};
 
-fn change_of(change: MemberChange, host: HostNo) -> Change
-    ensures value { result ≡ change_of change host }
-    ensures alone { spares_of result ≡ [] }
+// What is asked of the group at this place.
+fn change_of(world: &World, place: usize, change: MemberChange, host: HostNo) -> Change
+    requires within { place < length world.now.groups }
+    requires kept { IsKeptWorld world.now }
+    ensures value { (g : Group) → slice_get world.now.groups place ≡ Some g → result ≡ change_of world.now g change host }
+    ensures host { host_of_change result ≡ host }
+    ensures spares { AllByRecursion (λ spare. spare < HOST_LIMIT) (spares_of result) }
 {
     match change {
         MemberChange::Add => Change::Add(host),
         MemberChange::Remove => Change::Remove(host),
         MemberChange::Primary => Change::Primary(host),
-        MemberChange::Report => Change::Report(host),
+        MemberChange::Report => report_of(world, place, host),
     }
 }
 
@@ -123,9 +129,9 @@ fn tell_reported(
     }
 }
 
-/// The group at this place has its members changed, and all who are concerned are told; it is printed behind
-/// what the report has.
-pub fn push_change<L: Ledger>(
+// The group at this place has its members changed, and all who are concerned are told; it is printed behind
+// what the report has.
+fn push_change<L: Ledger>(
     world: &mut World,
     report: &mut ReportLines,
     place: usize,
@@ -157,6 +163,26 @@ pub fn push_change<L: Ledger>(
         GroupAnswer::NoMemory => Err(NoMemory),
         _ => Ok(()),
     }
+}
+
+/// A host is reported faulty to the group at this place, and all who are concerned are told; it is printed behind
+/// what the report has.
+pub fn push_report<L: Ledger>(
+    world: &mut World,
+    report: &mut ReportLines,
+    place: usize,
+    host: HostNo,
+    steps: &mut Steps<L>,
+) -> Result<(), NoMemory>
+    requires within { place < length world.old.groups }
+    requires host { host.0 < HOST_LIMIT }
+    requires kept { IsKeptWorld world.old }
+    ensures did { (g : Group) → slice_get world.old.groups place ≡ Some g →
+        DoesMore (changes_members world.old (placed place g) (report_of world.old g host) host) result report.old report.new world.new steps.old steps.new }
+    ensures kept { OnOk result (IsKeptWorld world.new) }
+{
+    let change = report_of(world, place, host);
+    push_change(world, report, place, change, host, steps)
 }
 
 // The group at this place has its members changed, and all who are concerned are told.
@@ -207,7 +233,8 @@ fn change_at<L: Ledger>(
         Some(host) => host,
         None => return Err(LineFault::Unknown),
     };
-    match change_members(world, place, change_of(change, host), host, steps) {
+    let change = change_of(world, place, change, host);
+    match change_members(world, place, change, host, steps) {
         Ok(report) => Ok(report),
         Err(NoMemory) => Err(LineFault::NoMemory),
     }

@@ -22,11 +22,12 @@
 mod creating;
 mod hosts;
 mod making;
+mod membership;
 mod properties;
 mod reading;
 
 pub use creating::{create_line, delete_line, grow_line};
-pub use hosts::{change_line, crash_line, push_change, restart_line, show_line};
+pub use hosts::{change_line, crash_line, push_report, restart_line, show_line};
 pub use making::{client_line, group_line, hosts_line, tick_line};
 pub use properties::{get_group_line, get_line, set_group_line, set_line, unset_line};
 pub use reading::{id_line, locations_line, member_line, ref_line};

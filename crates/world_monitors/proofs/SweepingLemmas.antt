@@ -1,17 +1,17 @@
 -- Reports one after another.
-use Rattle.std.proofs.Common.{◌≡◌, ℕ, zero, suc, ◌+◌, ◌-◌, ◌<◌, ◌≤◌, arith, Bool, true, false, List, [], ◌∷◌, ◌++◌, length, drop, Option, Some, None, refl, sym, ap, subst, ◌∙◌}
+use Rattle.std.proofs.Common.{◌≡◌, ℕ, zero, suc, ◌+◌, ◌-◌, ◌<◌, ◌≤◌, arith, Bool, true, false, List, [], ◌∷◌, ◌++◌, length, drop, Some, refl, sym, ap, subst, ◌∙◌}
 use Rattle.std.specs.Prelude.{if◌then◌else◌, slice_get, slice_index_or}
 use Rattle.std.specs.List.{AllByRecursion, filter}
 use Rattle.ft_base.specs.declared.limits.TheConstants.{HOST_LIMIT}
 use Rattle.ft_report.specs.declared.reports.ReportLine.{ReportLine}
 use Rattle.group_model.specs.Views.{newest, newest_view, no_view}
-use Rattle.property_manager.specs.declared.numbers.IntervalAndTimeout.{IntervalAndTimeout}
 use Rattle.script_groups.specs.Acting.{IsSoundGroup}
 use Rattle.script_groups.specs.Groups.{ScriptGroup, Placed, common_of, placed}
 use Rattle.script_groups.specs.Lists.{got}
 use Rattle.script_world.specs.World.{World}
 use Rattle.world_monitors.specs.Staying.{reports_stay}
-use Rattle.world_monitors.specs.Monitoring.{is_overdue_in, members_of, monitored, overdue, overdue_by}
+use Rattle.world_management.specs.Membership.{members_of}
+use Rattle.world_monitors.specs.Monitoring.{is_overdue_in, overdue}
 use Rattle.world_monitors.specs.Sweeping.{reported, reports_all, reports_one}
 use Rattle.world_turns.specs.Answers.{HasDone}
 use Rattle.world_turns.specs.Turns.{Effect, costing, saying}
@@ -57,7 +57,7 @@ module _ (w : World) (p : Placed ScriptGroup) (hosts rest : List ℕ) (host : �
   one = reports_one now (placed p.place s.group) host
 
   abbrev pub others : World → Effect
-  others v = reports_all v (reported (placed p.place s.group) host) rest
+  others v = reports_all v (reported now (placed p.place s.group) host) rest
 
   next_is : reports_all w p hosts ≡ saying report (costing s.cost (saying one.lines (costing one.calls (others one.world))))
   unfolding reports_all
@@ -65,8 +65,8 @@ module _ (w : World) (p : Placed ScriptGroup) (hosts rest : List ℕ) (host : �
 
   pub goes_on : (next : World) (more : List ReportLine) (after : ℕ) → HasDone (saying report one) more next steps after → IsSwept w p hosts rest next more before after
   goes_on next more after done = record {
-    group = (reported (placed p.place s.group) host).value;
-    there = subst (λ (v : World). slice_get v.groups p.place ≡ Some (reported (placed p.place s.group) host).value) (sym done.world)
+    group = (reported now (placed p.place s.group) host).value;
+    there = subst (λ (v : World). slice_get v.groups p.place ≡ Some (reported now (placed p.place s.group) host).value) (sym done.world)
         (reports_stay now (placed p.place s.group) host s.there);
     cost = s.cost + one.calls;
     calls = (let counted = done.calls in omega (arith, counted, s.calls));
@@ -110,8 +110,4 @@ members_inside g sound =
     (sound.common.views.each (newest c - 1) (newest_view c) (got c.views (newest c - 1) no_view last)).hosts
 
 pub overdue_inside : (w : World) (g : ScriptGroup) → IsSoundGroup g → AllByRecursion (λ (host : ℕ). host < HOST_LIMIT) (overdue w g)
-overdue_inside w g sound = go (monitored w g)
-  where
-    go : (o : Option IntervalAndTimeout) → AllByRecursion (λ (host : ℕ). host < HOST_LIMIT) (overdue_by w g o)
-    go None = tt
-    go (Some numbers) = all_filtered (λ (host : ℕ). host < HOST_LIMIT) (is_overdue_in w g.id.0) (members_of g) (members_inside g sound)
+overdue_inside w g sound = all_filtered (λ (host : ℕ). host < HOST_LIMIT) (is_overdue_in w g.id.0) (members_of g) (members_inside g sound)

@@ -5,7 +5,6 @@ use Rattle.std.specs.List.{filter, range_with_len}
 use Rattle.ft_base.specs.declared.limits.TheConstants.{HOST_LIMIT}
 use Rattle.ft_base.specs.Members.{is_member}
 use Rattle.fault_monitor.specs.Watching.{Watched, if_watched, is_due, is_overdue, numbered}
-use Rattle.group_model.specs.Views.{newest_view}
 use Rattle.property_manager.specs.declared.effective.Levels.{Levels}
 use Rattle.property_manager.specs.declared.names.PropertyName.TheVariants as names
 use Rattle.property_manager.specs.declared.numbers.IntervalAndTimeout.{IntervalAndTimeout}
@@ -15,9 +14,10 @@ use Rattle.property_manager.specs.Groups.{group_of, levels_of}
 use Rattle.property_manager.specs.Levels.{effective}
 use Rattle.property_manager.specs.Numbers.{interval_and_timeout}
 use Rattle.property_manager.specs.Styles.{monitoring_style}
-use Rattle.script_groups.specs.Groups.{ScriptGroup, common_of}
+use Rattle.script_groups.specs.Groups.{ScriptGroup}
 use Rattle.script_monitor.specs.Watches.{Watches, member_at, with_member}
 use Rattle.script_world.specs.World.{World}
+use Rattle.world_management.specs.Membership.{members_of}
 
 -- ---- the numbers of a group whose style is PULL; another group has none
 
@@ -37,10 +37,6 @@ abbrev pub monitored : World → ScriptGroup → Option IntervalAndTimeout
 monitored w g = monitored_by (group_of w.settings.groups g.id.0)
 
 -- ---- members
-
--- of the newest view, in order of joining
-abbrev pub members_of : ScriptGroup → List ℕ
-members_of g = (newest_view (common_of g)).members
 
 -- a member is watched by these numbers, and no other host is
 abbrev pub watched_of : List ℕ → Option IntervalAndTimeout → ℕ → Option Watched → Option Watched
@@ -67,13 +63,10 @@ is_due_in w group host = if_watched is_due (member_at w.watch group host) w.cloc
 abbrev pub due : World → ScriptGroup → List ℕ
 due w g = filter (is_due_in w g.id.0) (members_of g)
 
--- who hasn't answered in time, where the group is monitored so
+-- who hasn't answered in time. What is watched stays so until the group is polled again, also where its style is
+-- another now.
 abbrev pub is_overdue_in : World → ℕ → ℕ → Bool
 is_overdue_in w group host = if_watched is_overdue (member_at w.watch group host) w.clock
 
-abbrev pub overdue_by : World → ScriptGroup → Option IntervalAndTimeout → List ℕ
-overdue_by w g None = []
-overdue_by w g (Some numbers) = filter (is_overdue_in w g.id.0) (members_of g)
-
 abbrev pub overdue : World → ScriptGroup → List ℕ
-overdue w g = overdue_by w g (monitored w g)
+overdue w g = filter (is_overdue_in w g.id.0) (members_of g)

@@ -11,7 +11,8 @@ use Rattle.script_monitor.specs.Watches.{Watches, told}
 use Rattle.script_world.specs.World.{World, with_messages, with_watch}
 use Rattle.script_world.specs.declared.messages.Message.{Message}
 use Rattle.script_world.specs.declared.messages.Message.TheVariants as messages
-use Rattle.world_monitors.specs.Monitoring.{due, members_of, monitored, watching}
+use Rattle.world_management.specs.Membership.{members_of}
+use Rattle.world_monitors.specs.Monitoring.{due, monitored, watching}
 use Rattle.world_turns.specs.Naming.{Naming, NeverMade, Deleted, There, gone, group_called}
 use Rattle.world_turns.specs.Turns.{Effect, Turn, Refused, goes, says}
 

@@ -14,6 +14,7 @@ use Rattle.script_groups.specs.Lists.{get_set}
 use Rattle.script_world.specs.World.{World, with_event}
 use Rattle.shipped_servants.specs.declared.kinds.Kind.{Kind}
 use Rattle.world_management.specs.Hosts.{changed, with_reported}
+use Rattle.world_management.specs.Membership.{report_of}
 use Rattle.world_turns.specs.Sending.{all_sent}
 use Rattle.world_monitors.specs.Sweeping.{reported, reports_one}
 
@@ -42,9 +43,9 @@ changed_groups w host g change answers.NoMemory = refl
 
 -- the group behind a report stands where it stood
 pub reports_stay : (w : World) (p : Placed ScriptGroup) (host : ℕ) → slice_get w.groups p.place ≡ Some p.value →
-    slice_get (reports_one w p host).world.groups p.place ≡ Some (reported p host).value
+    slice_get (reports_one w p host).world.groups p.place ≡ Some (reported w p host).value
 reports_stay w p host there =
-    let change : Change = changes.Report (host_no host) in
+    let change : Change = report_of w p.value (host_no host) in
     ap (λ (gs : List ScriptGroup). slice_get gs p.place)
     (changed_groups (with_event w p.place p.value (Manage change)) (host_no host) p.value change (turn p.value (Manage change)).answer)
     ∙ get_set w.groups p.place (acted p.value (Manage change)) p.value there

@@ -90,9 +90,6 @@ pub(crate) fn overdue(world: &World, place: usize) -> Result<Vec<u8>, NoMemory>
 {
     let group = world.group(place).id();
     let mut overdue = Vec::new(world.alloc());
-    if monitored(world, place).is_none() {
-        return Ok(overdue);
-    }
     for host in world.group(place).newest().members.hosts() {
         if world.is_overdue(group, HostNo(*host)) {
             overdue.push(*host)?;

@@ -11,10 +11,9 @@ use crate::monitoring::overdue;
 use fault_script::LineFault;
 use ft_base::{HostNo, Name, NoMemory, Steps};
 use ft_report::{ReportLine, ReportLines};
-use group_model::Change;
 use script_world::World;
 use std::sync::ledger::Ledger;
-use world_management::push_change;
+use world_management::push_report;
 use world_turns::{Named, gone, group_called, one_line};
 
 // Each of these members of the group at this place is reported.
@@ -32,8 +31,7 @@ fn report_all<L: Ledger>(
 {
     let mut report = ReportLines::new(world.alloc());
     for host in hosts {
-        let host = HostNo(*host);
-        match push_change(world, &mut report, place, Change::Report(host), host, steps) {
+        match push_report(world, &mut report, place, HostNo(*host), steps) {
             Ok(()) => {}
             Err(NoMemory) => return Err(NoMemory),
         }

@@ -15,8 +15,8 @@ loop-host-init g c = record {
       (Rattle.std.proofs.Common.sym c.new-report.ensures) (begins c.args.world.now (placed c.args.place s) c.args.hosts.now c.args.steps.now there);
 }
 
-pub push_change-requires-clause-within : goal.push_change-requires-clause-within
-push_change-requires-clause-within g c =
+pub push_report-requires-clause-within : goal.push_report-requires-clause-within
+push_report-requires-clause-within g c =
     let at = some_at c.args.world.now.groups c.args.place c.requires.within in
     let s = c.loop-host.invariant.swept at.0 at.1 in
     slice_get_within c.loop-host.world.groups c.args.place s.group s.there
@@ -28,7 +28,7 @@ returns-in-Err g c = λ s there.
     let i = c.loop-host.host-index in
     let p = placed c.args.place s in
     let left = subst (λ (rest : List ℕ). IsSwept w p hosts rest c.loop-host.world c.loop-host.report c.args.steps.now c.loop-host.steps) (drop_next hosts i c.loop-host-test.true) (c.loop-host.invariant.swept s there) in
-    ends_short w p hosts (drop (i + 1) hosts) (slice_index_or hosts i 0) c.loop-host.world c.loop-host.report c.args.steps.now c.loop-host.steps left c.push_change.new.steps
+    ends_short w p hosts (drop (i + 1) hosts) (slice_index_or hosts i 0) c.loop-host.world c.loop-host.report c.args.steps.now c.loop-host.steps left c.push_report.new.steps
     (c.in-Err.ensures.did left.group left.there)
 
 pub loop-host-preserved : goal.loop-host-preserved
@@ -41,7 +41,7 @@ loop-host-preserved g c = record {
       let p = placed c.args.place s in
       let left = subst (λ (rest : List ℕ). IsSwept w p hosts rest c.loop-host.world c.loop-host.report c.args.steps.now c.loop-host.steps) (drop_next hosts i c.loop-host-test.true) (c.loop-host.invariant.swept s there) in
       goes_on w p hosts (drop (i + 1) hosts) (slice_index_or hosts i 0) c.loop-host.world c.loop-host.report c.args.steps.now c.loop-host.steps left
-      c.push_change.new.world c.push_change.new.report c.push_change.new.steps (c.in-Ok.ensures.did left.group left.there);
+      c.push_report.new.world c.push_report.new.report c.push_report.new.steps (c.in-Ok.ensures.did left.group left.there);
 }
 
 pub returns : goal.returns

@@ -1,10 +1,10 @@
 use Rattle.std.proofs.Common.{◌<◌, ℕ, ◌+◌, arith, Bool, ap, subst, sym, ◌∙◌}
 use Rattle.std.specs.Prelude.{if◌then◌else◌}
-use Rattle.world_management.specs.Creating.{has_object}
+use Rattle.world_management.specs.Membership.{has_object}
 use Rattle.world_management.proofs.CreatingLemmas.{counted_next, few_so_far}
 use Rattle.script_groups.specs.Lists.{some_at}
-use Rattle.world_management.proofs.creating.objects_at.Goals as goal
-use Rattle.world_management.proofs.creating.objects_at.Goals.{then-has_object, else-has_object}
+use Rattle.world_management.proofs.membership.objects_at.Goals as goal
+use Rattle.world_management.proofs.membership.objects_at.Goals.{then-has_object, else-has_object}
 
 pub overflow_add-objects : goal.overflow_add-objects
 overflow_add-objects c =

@@ -1,7 +1,7 @@
 use Rattle.std.proofs.Common.{◌≡◌, ◌≤◌, length, take}
 use Rattle.std.specs.List.{filter}
-use Rattle.world_management.specs.Creating.{has_object}
-use Rattle.world_management.proofs.creating.objects_at.Given as goal
+use Rattle.world_management.specs.Membership.{has_object}
+use Rattle.world_management.proofs.membership.objects_at.Given as goal
 
 -- those of the groups so far
 abbrev pub invariant-loop-place : goal.invariant-loop-place
