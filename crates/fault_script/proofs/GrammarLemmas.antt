@@ -5,14 +5,13 @@ use Rattle.fault_script.specs.Words.{each, is_comment}
 use Rattle.fault_script.specs.Arguments.{or_syntax}
 use Rattle.fault_script.specs.Parts.{Part, Value, word_value, SpellsValue}
 use Rattle.fault_script.specs.Grammar.{Form, ends, word, all_words, any_words, optional, no_form, verb_word, form, HasForm, Spells, first_word, no_words, form_line}
-use Rattle.fault_script.specs.Forms.{is_unbuilt, all_verbs, verb, read_form, line_of_verb, line_of, as_some, parse_words}
-use Rattle.fault_script.proofs.StepLemmas.{else_case, map_value, chain_value}
+use Rattle.fault_script.specs.Forms.{all_verbs, verb, read_form, line_of_verb, line_of, as_some, parse_words}
+use Rattle.fault_script.proofs.StepLemmas.{map_value, chain_value}
 use Rattle.fault_script.proofs.EachLemmas.{each_apart, each_read}
 use Rattle.fault_script.proofs.PartLemmas.{by_word_found, part_found, part_read}
 use Rattle.fault_script.specs.declared.lines.MemberChange.TheVariants as changes
 use Rattle.fault_script.specs.declared.lines.Line.{Line}
 use Rattle.fault_script.specs.declared.lines.LineFault.{LineFault}
-use Rattle.fault_script.specs.declared.lines.LineFault.TheVariants.{Later}
 use Rattle.fault_script.specs.declared.verbs.NameVerb.TheVariants as names
 use Rattle.fault_script.specs.declared.verbs.Verb.{Verb}
 use Rattle.fault_script.specs.declared.verbs.Verb.TheVariants as verbs
@@ -101,6 +100,7 @@ begins (verbs.Name names.Unsubscribe) rest = refl
 begins (verbs.Name names.Pull) rest = refl
 begins (verbs.Name names.Checkpoint) rest = refl
 begins (verbs.Name names.Update) rest = refl
+begins (verbs.Name names.LogFail) rest = refl
 
 syntax_some : (read : Option Line) (line : Line) → or_syntax read ≡ Ok line → read ≡ Some line
 syntax_some None line e = cc
@@ -124,8 +124,7 @@ pub read_is_spelled : (ws : List (List ℕ)) (line : Line) → parse_words ws �
 read_is_spelled [] line e = cc
 read_is_spelled (first ∷ rest) line e =
     let read = as_some_line (line_of first rest) line (not_comment (is_comment first) (as_some (line_of first rest)) line e) in
-    let built = else_case (is_unbuilt first) (line_of_verb (verb first) rest) Later line read in
-    verb_found (verb first) first rest line refl built.1
+    verb_found (verb first) first rest line refl read
 
 -- what is of a form is read
 pub spelled_is_read : (ws : List (List ℕ)) (line : Line) → Spells ws line → parse_words ws ≡ Ok (Some line)

@@ -8,10 +8,6 @@ use Rattle.fault_script.specs.Parts.{Part, Value, a_text, word_value}
 use Rattle.fault_script.specs.Grammar.{first_word}
 use Rattle.fault_script.specs.declared.lines.LineFault.{LineFault}
 
-pub else_case : {A : Type 0} (b : Bool) (answer : Result A LineFault) (fault : LineFault) (value : A) → cond b (Err fault) answer ≡ Ok value → (b ≡ false) × (answer ≡ Ok value)
-else_case true answer fault value e = cc
-else_case false answer fault value e = (refl, e)
-
 pub same_text : (a b : List ℕ) → bytes_eq a b ≡ true → a ≡ b
 same_text a b e = (bytes_eq-Decides a b).0 e
 

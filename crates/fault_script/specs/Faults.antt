@@ -34,5 +34,4 @@ fault_text faults.Syntax = codes "syntax"
 fault_text faults.Unknown = codes "unknown"
 fault_text faults.Again = codes "again"
 fault_text (faults.Limit name) = codes "limit " ++ limit_text name
-fault_text faults.Later = codes "later"
 fault_text faults.NoMemory = codes "no memory"

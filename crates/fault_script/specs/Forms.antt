@@ -1,8 +1,5 @@
--- What a script line reads as: its event, nothing, or the first of the refusals `limit line`, `later`
--- and `syntax` that applies.
+-- What a script line reads as: its event, nothing, or the first of the refusals `limit line` and `syntax` that applies.
 use Rattle.std.specs.Prelude.{◌≡◌, ◌⊎◌, ℕ, Bool, nat_lt, if◌then◌else◌, List, [], ◌∷◌, length, codes, Option, Some, None, Result, Ok, Err, MatchResult}
-use Rattle.std.specs.List.{list_any}
-use Rattle.std.specs.Str.{bytes_eq}
 use Rattle.fault_script.specs.Words.{words, is_comment}
 use Rattle.fault_script.specs.Arguments.{or_syntax}
 use Rattle.fault_script.specs.Parts.{by_word}
@@ -11,34 +8,26 @@ use Rattle.fault_script.specs.declared.lines.MemberChange.TheVariants as changes
 use Rattle.fault_script.specs.declared.lines.Line.{Line}
 use Rattle.fault_script.specs.declared.lines.LimitName.TheVariants as limits
 use Rattle.fault_script.specs.declared.lines.LineFault.{LineFault}
-use Rattle.fault_script.specs.declared.lines.LineFault.TheVariants.{Limit, Later, NoMemory, Syntax}
+use Rattle.fault_script.specs.declared.lines.LineFault.TheVariants.{Limit, NoMemory, Syntax}
 use Rattle.fault_script.specs.declared.verbs.NameVerb.TheVariants as names
 use Rattle.fault_script.specs.declared.verbs.Verb.{Verb}
 use Rattle.fault_script.specs.declared.verbs.Verb.TheVariants as verbs
-
--- the first words of lines that are not built yet
-abbrev pub unbuilt : List (List ℕ)
-unbuilt = codes "logfail" ∷ []
-
--- a line with this first word is `later`
-abbrev pub is_unbuilt : List ℕ → Bool
-is_unbuilt first = list_any (bytes_eq first) unbuilt
 
 -- the first words of lines that change a group's members
 abbrev pub change_verbs : List Verb
 change_verbs = verbs.Change changes.Add ∷ verbs.Change changes.Remove ∷ verbs.Change changes.Primary ∷ verbs.Change changes.Report ∷ []
 
--- those of lines about faults, states and updates, and the former
+-- those of lines about faults, states, updates and logs, and the former
 abbrev pub fault_verbs : List Verb
 fault_verbs =
     verbs.Name names.Poll ∷ verbs.Name names.Sweep ∷ verbs.Subscribe ∷ verbs.Name names.Unsubscribe ∷ verbs.Name names.Pull
-    ∷ verbs.Name names.Checkpoint ∷ verbs.Name names.Update ∷ change_verbs
+    ∷ verbs.Name names.Checkpoint ∷ verbs.Name names.Update ∷ verbs.Name names.LogFail ∷ change_verbs
 
 -- those of lines about groups and their properties, and the former
 abbrev pub group_verbs : List Verb
 group_verbs = verbs.Create ∷ verbs.Set ∷ verbs.Unset ∷ verbs.Get ∷ verbs.Grow ∷ verbs.Name names.Delete ∷ fault_verbs
 
--- those of all lines that are built
+-- those of all lines
 abbrev pub all_verbs : List Verb
 all_verbs =
     verbs.Hosts ∷ verbs.Group ∷ verbs.Name names.Client ∷ verbs.Call ∷ verbs.Bind ∷ verbs.Name names.Timeout ∷ verbs.Deliver ∷ verbs.Tick
@@ -60,7 +49,7 @@ line_of_verb (Some verb) rest = read_form (form verb) rest
 
 -- the line of a first word and the words behind it
 abbrev pub line_of : List ℕ → List (List ℕ) → Result Line LineFault
-line_of first rest = if is_unbuilt first then Err Later else line_of_verb (verb first) rest
+line_of first rest = line_of_verb (verb first) rest
 
 -- the line of some words
 abbrev pub form_of : List (List ℕ) → Result Line LineFault

@@ -70,6 +70,7 @@ verb_word (verbs.Name names.Unsubscribe) = codes "unsubscribe"
 verb_word (verbs.Name names.Pull) = codes "pull"
 verb_word (verbs.Name names.Checkpoint) = codes "checkpoint"
 verb_word (verbs.Name names.Update) = codes "update"
+verb_word (verbs.Name names.LogFail) = codes "logfail"
 
 -- the line about a group, a client or a subscriber that says nothing but its name
 abbrev pub name_line : NameVerb → List ℕ → Line
@@ -86,6 +87,7 @@ name_line names.Unsubscribe name = lines.Unsubscribe name
 name_line names.Pull name = lines.Pull name
 name_line names.Checkpoint name = lines.Checkpoint name
 name_line names.Update name = lines.Update name
+name_line names.LogFail name = lines.LogFail name
 
 -- behind a scope: a level (`default` or `type KIND`) and what follows it, or what follows `group`
 abbrev pub level_form : (Level → Form) → Form → Scope → Form

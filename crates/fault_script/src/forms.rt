@@ -165,6 +165,7 @@ fn name_line(verb: NameVerb, name: Name) -> Line
         NameVerb::Pull => Line::Pull(name),
         NameVerb::Checkpoint => Line::Checkpoint(name),
         NameVerb::Update => Line::Update(name),
+        NameVerb::LogFail => Line::LogFail(name),
     }
 }
 

@@ -5,7 +5,7 @@
 //! ```
 //! match read_line(alloc, line) {
 //!     Ok(Some(Line::Call { words, .. })) => call_words(alloc, Some(signature), &words),
-//!     _ => Err(LineFault::Later),
+//!     _ => Err(LineFault::Syntax),
 //! }
 //! ```
 #![tactic(auto)]

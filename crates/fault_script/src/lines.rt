@@ -195,6 +195,8 @@ pub enum Line {
     Checkpoint(Name),
     /// `update G`: the backups of a warm group are told what its primary has run.
     Update(Name),
+    /// `logfail G`: the next write of the group's log fails.
+    LogFail(Name),
 }
 
 /// What there are only so many of.
@@ -230,8 +232,6 @@ pub enum LineFault {
     Again,
     /// There would be too much of this.
     Limit(LimitName),
-    /// It is a line of the language that isn't built yet.
-    Later,
     /// Out of memory.
     NoMemory,
 }
@@ -340,7 +340,6 @@ impl LineFault {
             LineFault::Unknown => b"unknown",
             LineFault::Again => b"again",
             LineFault::Limit(name) => name.text(),
-            LineFault::Later => b"later",
             LineFault::NoMemory => b"no memory",
         }
     }

@@ -13,14 +13,14 @@ use crate::forms::{
 use crate::lines::{LimitName, Line, LineFault};
 use crate::settings::{read_get, read_set, read_unset};
 use crate::splitting::{LineWords, is_comment, split_first, split_words};
-use crate::verbs::{Verb, find_verb, is_unbuilt};
+use crate::verbs::{Verb, find_verb};
 use std::alloc::Global;
 
 /// The longest line, in bytes without its end.
 const LINE_LIMIT: usize = 4096;
 
-/// Reads the line of some words, and writes it at the place that is given. It is refused as `later` or `syntax`, for the
-/// first of these that applies; what the place holds then is unspecified.
+/// Reads the line of some words, and writes it at the place that is given. What is of no form is refused as `syntax`; what
+/// the place holds then is unspecified.
 // A line is large: each form writes it where the caller wants it, so that it is never moved.
 #[inline(never)]
 pub fn read_words(alloc: Global, words: &[&[u8]], line: &mut Line) -> Result<(), LineFault>
@@ -29,9 +29,6 @@ pub fn read_words(alloc: Global, words: &[&[u8]], line: &mut Line) -> Result<(),
     let Some((first, rest)) = split_first(words) else {
         return Err(LineFault::Syntax);
     };
-    if is_unbuilt(first) {
-        return Err(LineFault::Later);
-    }
     match find_verb(first) {
         None => Err(LineFault::Syntax),
         Some(Verb::Hosts) => read_hosts(rest, line),
@@ -97,7 +94,7 @@ fn read_text(alloc: Global, text: &[u8]) -> Result<Option<Line>, LineFault>
 }
 
 /// Reads a line of a script, without its end. `None`: nothing stands in it, or a comment does. A line is
-/// refused as `limit line`, `later` or `syntax`, for the first of these that applies.
+/// refused as `limit line` or `syntax`, for the first of these that applies.
 pub fn read_line(alloc: Global, text: &[u8]) -> Result<Option<Line>, LineFault>
     // The table of lines and refusals, exactly.
     ensures answer { IsAnswer result (parse text.now) }

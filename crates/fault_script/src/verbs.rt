@@ -1,9 +1,7 @@
 ghost use Rattle.std.specs.Prelude.{◌≡◌};
-ghost use Rattle.std.specs.List.{list_any};
-ghost use Rattle.std.specs.Str.{bytes_eq};
 ghost use Rattle.fault_script.specs.Parts.{by_word};
 ghost use Rattle.fault_script.specs.Grammar.{verb_word};
-ghost use Rattle.fault_script.specs.Forms.{change_verbs, fault_verbs, group_verbs, verb, is_unbuilt};
+ghost use Rattle.fault_script.specs.Forms.{change_verbs, fault_verbs, group_verbs, verb};
 
 use crate::lines::MemberChange;
 
@@ -23,9 +21,10 @@ pub(crate) enum NameVerb {
     Pull,
     Checkpoint,
     Update,
+    LogFail,
 }
 
-/// The first words of the lines that are built.
+/// The first words of lines.
 #[derive(Clone, Copy, Debug, PartialEq, Eq)]
 pub(crate) enum Verb {
     Hosts,
@@ -64,7 +63,7 @@ fn find_change_verb(first: &[u8]) -> Option<Verb>
     }
 }
 
-/// The line about faults, states and updates, or a change of members, that a first word begins.
+/// The line about faults, states, updates and logs, or a change of members, that a first word begins.
 fn find_fault_verb(first: &[u8]) -> Option<Verb>
     ensures { result ≡ by_word verb_word fault_verbs first.now }
 {
@@ -82,6 +81,8 @@ fn find_fault_verb(first: &[u8]) -> Option<Verb>
         Some(Verb::Name(NameVerb::Checkpoint))
     } else if first == b"update".as_slice() {
         Some(Verb::Name(NameVerb::Update))
+    } else if first == b"logfail".as_slice() {
+        Some(Verb::Name(NameVerb::LogFail))
     } else {
         find_change_verb(first)
     }
@@ -108,7 +109,7 @@ fn find_group_verb(first: &[u8]) -> Option<Verb>
     }
 }
 
-/// The line that a first word begins, of those that are built.
+/// The line that a first word begins.
 pub(crate) fn find_verb(first: &[u8]) -> Option<Verb>
     ensures { result ≡ verb first.now }
 {
@@ -147,19 +148,4 @@ pub(crate) fn find_verb(first: &[u8]) -> Option<Verb>
     } else {
         find_group_verb(first)
     }
-}
-
-static UNBUILT: [&[u8]; 1] = [b"logfail"];
-
-fn is_among(word: &[u8], texts: &[&[u8]]) -> bool
-    ensures { result ≡ list_any (λ text. bytes_eq word.now text.now) texts.now }
-{
-    texts.iter().any(|text| word == *text)
-}
-
-/// Whether a word is the first one of a line that is not built yet.
-pub(crate) fn is_unbuilt(first: &[u8]) -> bool
-    ensures { result ≡ is_unbuilt first.now }
-{
-    is_among(first, &UNBUILT)
 }

@@ -27,7 +27,7 @@ use Rattle.group_model.specs.declared.events.Event.TheVariants as events
 use Rattle.group_model.specs.declared.events.GroupAnswer.{GroupAnswer}
 use Rattle.group_model.specs.declared.events.GroupAnswer.TheVariants as answers
 use Rattle.group_model.specs.declared.refusals.Refusal.{Refusal}
-use Rattle.script_groups.specs.Groups.{common_of, group_of, machine_of}
+use Rattle.script_groups.specs.Groups.{common_of, group_of, is_failing, machine_of}
 use Rattle.ft_world.specs.DeadArms.{AnswersFit, IsAnswerTo, IsSaid}
 
 either_turn : (e : Event) (b : Bool) (t u : Turn) → IsAnswerTo e t.answer → IsAnswerTo e u.answer → IsAnswerTo e (if b then t else u).answer
@@ -40,7 +40,7 @@ either_answer e false x y a b = b
 
 -- ---- a request
 
-module _ (m : Machine) (host : HostNo) (clock : Tick) (asked : Asked) (stop : Stop) where
+module _ (m : Machine) (host : HostNo) (clock : Tick) (asked : Asked) (stop : Stop) (fails : Bool) where
   abbrev Fits : Turn → Type 0
   Fits t = IsAnswerTo (events.Request host clock asked stop) t.answer
 
@@ -49,14 +49,15 @@ module _ (m : Machine) (host : HostNo) (clock : Tick) (asked : Asked) (stop : St
   accepted_fits c h now request AfterAppend is = subst (IsSaid None) is tt
   accepted_fits c h now request AfterExecute is = subst (IsSaid None) is tt
 
-  admitted_fits : (c : Common) (h : Host) (now : ℕ) (request : Request) (a : Admission) → Fits (admitted m c h host.0 now request stop false a)
+  admitted_fits : (c : Common) (h : Host) (now : ℕ) (request : Request) (a : Admission) → Fits (admitted m c h host.0 now request stop fails a)
   admitted_fits c h now request (Expired expiration) = tt
   admitted_fits c h now request (Same i) = tt
   admitted_fits c h now request (Other i) = tt
   admitted_fits c h now request Full = tt
-  admitted_fits c h now request New = accepted_fits c h now request stop refl
+  admitted_fits c h now request New =
+      either_turn (events.Request host clock asked stop) fails _ (accepted m c h host.0 now request stop) tt (accepted_fits c h now request stop refl)
 
-  served_fits : (c : Common) (h : Host) (r : Result Request Refusal) → Fits (served_or m c h host.0 clock.0 stop false r)
+  served_fits : (c : Common) (h : Host) (r : Result Request Refusal) → Fits (served_or m c h host.0 clock.0 stop fails r)
   served_fits c h (Err refused) = tt
   served_fits c h (Ok request) =
       let now = max clock.0 c.time in
@@ -66,10 +67,10 @@ module _ (m : Machine) (host : HostNo) (clock : Tick) (asked : Asked) (stop : St
   unless_bad_fits None c h t fits = fits
   unless_bad_fits (Some id) c h t fits = tt
 
-  request_fits : (c : Common) (h : Host) → Fits (on_request m c h host.0 clock.0 asked stop false)
+  request_fits : (c : Common) (h : Host) → Fits (on_request m c h host.0 clock.0 asked stop fails)
   request_fits c h =
       let knows : Host = record h { known = known_then (newest c) h.known asked.version } in
-      unless_bad_fits asked.bad_context c h (asked_at m c knows host.0 clock.0 asked stop false)
+      unless_bad_fits asked.bad_context c h (asked_at m c knows host.0 clock.0 asked stop fails)
       (served_fits c knows (request_in m c host.0 knows.known asked))
 
 -- ---- what other hosts send
@@ -97,9 +98,9 @@ order_fits c h host i request =
 
 -- ---- a change of members
 
-change_fits : (c : Common) (h : Host) (change : Change) (o : Option ManageFault) → IsAnswerTo (events.Manage change) (changed_or c h change false o).answer
-change_fits c h change None = tt
-change_fits c h change (Some fault) = tt
+change_fits : (c : Common) (h : Host) (change : Change) (fails : Bool) (o : Option ManageFault) → IsAnswerTo (events.Manage change) (changed_or c h change fails o).answer
+change_fits c h change fails None = either_turn (events.Manage change) fails _ _ tt tt
+change_fits c h change fails (Some fault) = tt
 
 -- ---- each event
 
@@ -111,8 +112,8 @@ pub answers_fit : AnswersFit
 answers_fit g (events.Request host clock asked stop) =
     let c : Common = common_of g in
     let h : Host = (group_of g).hosts host.0 in
-    if_up_fits (events.Request host clock asked stop) c h (on_request (machine_of g) c h host.0 clock.0 asked stop false)
-    (request_fits (machine_of g) host clock asked stop c h) tt
+    if_up_fits (events.Request host clock asked stop) c h (on_request (machine_of g) c h host.0 clock.0 asked stop (is_failing g))
+    (request_fits (machine_of g) host clock asked stop (is_failing g) c h) tt
 answers_fit g (events.View host sent) =
     let c : Common = common_of g in
     let h : Host = (group_of g).hosts host.0 in
@@ -134,11 +135,12 @@ answers_fit g (events.Restart host) = tt
 answers_fit g (events.Checkpoint host clock) =
     let c : Common = common_of g in
     let h : Host = (group_of g).hosts host.0 in
-    if_up_fits (events.Checkpoint host clock) c h (on_checkpoint (machine_of g) c h host.0 clock.0 false) tt tt
+    if_up_fits (events.Checkpoint host clock) c h (on_checkpoint (machine_of g) c h host.0 clock.0 (is_failing g))
+    (either_turn (events.Checkpoint host clock) (is_failing g) _ _ tt tt) tt
 answers_fit g (events.SendUpdate host) =
     let c : Common = common_of g in
     let h : Host = (group_of g).hosts host.0 in
     if_up_fits (events.SendUpdate host) c h (on_send_update (machine_of g) c h host.0) tt tt
 answers_fit g (events.Manage change) =
     let c : Common = common_of g in
-    change_fits c ((group_of g).hosts (host_of_change change).0) change (first_fault (change_rows c.style (newest_view c) change))
+    change_fits c ((group_of g).hosts (host_of_change change).0) change (is_failing g) (first_fault (change_rows c.style (newest_view c) change))

@@ -4,12 +4,12 @@ use Rattle.std.proofs.lemmas.Bool.{ne_eqb}
 use Rattle.std.specs.Prelude.{◌==◌, is_some, option_map, slice_get, sum_by}
 use Rattle.std.specs.List.{AllByRecursion}
 use Rattle.std.proofs.lemmas.List.Sums.{sum_by-cons}
-use Rattle.group_model.specs.declared.events.Event.{Event}
 use Rattle.group_model.specs.declared.events.Event.TheVariants as events
 use Rattle.group_model.specs.Laws.{DeposedAppendNothing}
 use Rattle.group_model.specs.Plain.{Group}
-use Rattle.script_groups.specs.Groups.{ScriptGroup, common_of, entries_caught_up, entries_run, group_of, machine_of, orders_applied, placed, servant_calls, with_more}
-use Rattle.script_groups.specs.Laws.{CallsAreCounted, CallsGoOn, GroupsGrow, HistoriesGoOn, JournalsAcceptOnce, NoneCalledYet, RepliesStay}
+use Rattle.script_groups.specs.Groups.{ScriptGroup, common_of, entries_caught_up, entries_run, group_of, is_failing, machine_of, orders_applied, placed, servant_calls, with_more}
+use Rattle.script_groups.specs.declared.happenings.Happening.{Happening}
+use Rattle.script_groups.specs.Laws.{CallsAreCounted, GroupsGrow, HistoriesGoOn, JournalsAcceptOnce, RepliesStay}
 use Rattle.fault_script.specs.declared.lines.Line.{Line}
 use Rattle.fault_script.specs.declared.lines.LineFault.{LineFault}
 use Rattle.ft_report.specs.declared.reports.ReportLine.{ReportLine}
@@ -26,7 +26,7 @@ use Rattle.ft_world.specs.Laws.{AllLater, DeposedDoNothing, DeposedDoesNothing, 
 use Rattle.world_turns.specs.Answers.{calls_of}
 use Rattle.world_turns.specs.Turns.{Turn, Goes, Refused, first_cause, judged, total_causes, totals_of, unless}
 use Rattle.ft_world.proofs.KeptLemmas.{GoesOn, first_on}
-use Rattle.ft_world.proofs.LaterLemmas.{all_next, all_stay}
+use Rattle.ft_world.proofs.LaterLemmas.{KnownCalls, all_next, all_stay}
 use Rattle.ft_world.proofs.MadeLemmas.{AllMade, GoesBy, IsNumber, IsOfOne, Names, all_both, all_so}
 
 -- ---- what holds of every group
@@ -40,7 +40,7 @@ scripts_accept_once once script = each (λ g. Rattle.ft_base.specs.Journal.AtMos
 
 does_nothing : DeposedAppendNothing → HistoriesGoOn → (g : ScriptGroup) → DeposedDoesNothing g
 does_nothing deposed histories g host clock asked stop older =
-    let law = deposed (machine_of g) (group_of g) false host clock asked stop older in
+    let law = deposed (machine_of g) (group_of g) (is_failing g) host clock asked stop older in
     (ap (λ (p : Group). p.common) (histories g (events.Request host clock asked stop)) ∙ law.0, law.1)
 
 pub deposed_do_nothing : DeposedAppendNothing → HistoriesGoOn → DeposedDoNothing
@@ -79,7 +79,7 @@ groups_later w (line ∷ script) =
     (all_next w.groups next.groups (world_after next script).groups here (groups_later next script)) here
 
 module _ (grow : GroupsGrow) (stay : RepliesStay) where
-  keeps : (g : ScriptGroup) (more : List Event) → KeepsEntries g (with_more g more)
+  keeps : (g : ScriptGroup) (more : List Happening) → KeepsEntries g (with_more g more)
   keeps g more =
       let grown = grow g more in
       record { id = refl; more = grown.more; journal = grown.journal; replies = stay g more }
@@ -94,9 +94,9 @@ module _ (grow : GroupsGrow) (stay : RepliesStay) where
 
 -- ---- servant calls
 
-module _ (go_on : CallsGoOn) (none : NoneCalledYet) where
+module _ (known : KnownCalls) where
   work_called : (w : World) (t : Turn) → LineGoes w t → calls_of_groups (worked w t).groups ≡ calls_of_groups w.groups + calls_of t
-  work_called w (Goes next report calls) on = on.called go_on none
+  work_called w (Goes next report calls) on = on.called known
   work_called w (Refused why calls) on = omega (arith, on)
 
   -- a line's calls are those of its work, whether a total refuses it or not

@@ -12,15 +12,15 @@ use Rattle.group_model.specs.declared.events.Out.{Out}
 use Rattle.script_clients.specs.Clients.{Client}
 use Rattle.script_clients.specs.declared.answers.Told.{Told}
 use Rattle.script_groups.specs.Acting.{IsKept}
-use Rattle.script_groups.specs.Groups.{ScriptGroup, Placed, acted, all_acted, placed, turn}
-use Rattle.script_groups.specs.Laws.{CallsGoOn, NoneCalledYet}
-use Rattle.script_world.specs.World.{World, with_client, with_event, with_messages}
+use Rattle.script_groups.specs.Groups.{ScriptGroup, Placed, acted, all_acted, failing, placed, turn}
+use Rattle.script_groups.specs.declared.happenings.Happening.TheVariants as happenings
+use Rattle.script_world.specs.World.{World, with_client, with_event, with_failing, with_messages}
 use Rattle.script_world.specs.declared.messages.Message.{Message}
 use Rattle.world_management.specs.Hosts.{started_again, stopped}
 use Rattle.world_turns.specs.Sending.{all_carried, all_sent}
 use Rattle.world_turns.specs.Turns.{Effect}
 use Rattle.ft_world.specs.Laws.{AllLater, HasMore, calls_of_groups}
-use Rattle.ft_world.proofs.LaterLemmas.{AreFew, Few, all_next, all_stay, each_later, none_called, one_called, one_later}
+use Rattle.ft_world.proofs.LaterLemmas.{AreFew, KnownCalls, Few, all_next, all_stay, as_often, each_later, none_called, one_called, one_later}
 use Rattle.ft_world.proofs.MadeLemmas.{AllMade, AreMade, GoesBy, IsIn, IsNumber, Names, Tells, more_clients, more_groups, more_messages, set_long}
 use Rattle.ft_world.proofs.PlaceLemmas.{IsOneOf}
 use Rattle.script_groups.specs.Lists.{all_get, all_set, get_set}
@@ -29,7 +29,7 @@ use Rattle.script_groups.specs.Lists.{all_get, all_set, get_set}
 pub record Keeps (w new : World) (calls : ℕ) : Type 0 where
   pub groups : AllByRecursion IsKept w.groups → AllByRecursion IsKept new.groups
   pub later : AllLater HasMore w.groups new.groups
-  pub called : CallsGoOn → NoneCalledYet → calls_of_groups new.groups ≡ calls_of_groups w.groups + calls
+  pub called : KnownCalls → calls_of_groups new.groups ≡ calls_of_groups w.groups + calls
   pub clock : new.clock ≡ w.clock
   pub few : (lines : ℕ) → AreFew lines w.clients → AreFew lines new.clients
   pub made : AllMade w → AllMade new
@@ -43,7 +43,7 @@ pub untouched : (w new : World) → new.groups ≡ w.groups → new.clock ≡ w.
 untouched w new groups clock few made = record {
   groups = λ all. subst (AllByRecursion IsKept) (sym groups) all;
   later = subst (AllLater HasMore w.groups) (sym groups) (all_stay w.groups);
-  called = λ go none. let same = ap calls_of_groups groups in omega (arith, same);
+  called = λ known. let same = ap calls_of_groups groups in omega (arith, same);
   clock = clock;
   few = few;
   made = made;
@@ -56,7 +56,7 @@ pub behind : (w v new : World) (m n : ℕ) → Keeps w v m → Keeps v new n →
 behind w v new m n a b = record {
   groups = λ all. b.groups (a.groups all);
   later = all_next w.groups v.groups new.groups a.later b.later;
-  called = λ go none. let first = a.called go none in let second = b.called go none in omega (arith, first, second);
+  called = λ known. let first = a.called known in let second = b.called known in omega (arith, first, second);
   clock = b.clock ∙ a.clock;
   few = λ lines f. b.few lines (a.few lines f);
   made = λ m. b.made (a.made m);
@@ -99,13 +99,26 @@ regrouped w hs long all a =
 pub group_acts : (w : World) (p : Placed ScriptGroup) (e : Event) → IsOneOf w.groups (Some p) → Keeps w (with_event w p.place p.value e) (turn p.value e).calls
 group_acts w p e is = record {
   groups = λ all. all_set IsKept w.groups p.place (acted p.value e) all (all_get IsKept w.groups p.place p.value all is);
-  later = one_later w.groups p.place p.value e is;
-  called = λ go none. one_called go w.groups p.place p.value e is;
+  later = one_later w.groups p.place p.value (happenings.Event e) is;
+  called = λ known. one_called known.go_on w.groups p.place p.value e is;
   clock = refl;
   few = λ lines f. f;
   made = λ a.
       regrouped w (slice_set w.groups p.place (acted p.value e)) (set_long w.groups p.place (acted p.value e))
       (all_set (IsIn (length w.groups)) w.groups p.place (acted p.value e) a.groups (one_made w p is a)) a;
+}
+
+-- the next write of its log is to fail
+pub log_fails : (w : World) (p : Placed ScriptGroup) → IsOneOf w.groups (Some p) → Keeps w (with_failing w p.place p.value) 0
+log_fails w p is = record {
+  groups = λ all. all_set IsKept w.groups p.place (failing p.value) all (all_get IsKept w.groups p.place p.value all is);
+  later = one_later w.groups p.place p.value happenings.FailNext is;
+  called = λ known. let same = as_often w.groups p.place p.value (failing p.value) is (known.failing p.value).1 in omega (arith, same);
+  clock = refl;
+  few = λ lines f. f;
+  made = λ a.
+      regrouped w (slice_set w.groups p.place (failing p.value)) (set_long w.groups p.place (failing p.value))
+      (all_set (IsIn (length w.groups)) w.groups p.place (failing p.value) a.groups (one_made w p is a)) a;
 }
 
 pub all_hear : (e : Event) (gs : List ScriptGroup) → AllByRecursion IsKept gs → AllByRecursion IsKept (all_acted e gs)
@@ -123,7 +136,7 @@ pub host_stops : (w : World) (host : HostNo) → Keeps w (stopped w host) 0
 host_stops w host = record {
   groups = λ all. all_hear (events.Crash host) w.groups all;
   later = each_later (events.Crash host) w.groups;
-  called = λ go none. let same = none_called go (events.Crash host) (λ g. refl) w.groups in omega (arith, same);
+  called = λ known. let same = none_called known.go_on (events.Crash host) (λ g. refl) w.groups in omega (arith, same);
   clock = refl;
   few = λ lines f. f;
   made = all_made w (events.Crash host);
@@ -133,7 +146,7 @@ pub host_starts : (w : World) (host : HostNo) → Keeps w (started_again w host)
 host_starts w host = record {
   groups = λ all. all_hear (events.Restart host) w.groups all;
   later = each_later (events.Restart host) w.groups;
-  called = λ go none. let same = none_called go (events.Restart host) (λ g. refl) w.groups in omega (arith, same);
+  called = λ known. let same = none_called known.go_on (events.Restart host) (λ g. refl) w.groups in omega (arith, same);
   clock = refl;
   few = λ lines f. f;
   made = all_made w (events.Restart host);

@@ -1,4 +1,4 @@
--- What every line leaves of a world: each group, which may have had more events, and the servant calls of these;
+-- What every line leaves of a world: each group, to which more may have happened, and the servant calls of that;
 -- the clock goes on by less than 2^32, and each client begins one invocation at most.
 use Rattle.std.proofs.Common.{◌≡◌, ℕ, suc, ◌+◌, ◌<◌, ◌≤◌, ◌^◌, arith, Bool, true, false, List, [], ◌∷◌, ◌++◌, length, Option, Some, None, Result, Ok, Err, refl, ap, subst, ◌∙◌}
 use Rattle.std.proofs.lemmas.List.{length_push}
@@ -42,11 +42,11 @@ use Rattle.shipped_servants.specs.declared.kinds.Kind.{Kind}
 use Rattle.script_world.specs.declared.hosts.HostState.{HostState}
 use Rattle.script_world.specs.declared.messages.Message.{Message}
 use Rattle.script_world.specs.Sound.{HasActed, IsKeptWorld}
-use Rattle.script_world.specs.World.{World, client_named, is_up, message_numbered, passed, with_client, with_event, with_fault, with_hosts, with_one_client, with_settings, with_subscribers, without_group}
+use Rattle.script_world.specs.World.{World, client_named, is_up, message_numbered, passed, with_client, with_event, with_failing, with_fault, with_hosts, with_one_client, with_settings, with_subscribers, without_group}
 use Rattle.script_world.specs.Worlds.{begin}
 use Rattle.script_world.specs.declared.worlds.Begun.{Begun}
 use Rattle.ft_world.proofs.ComingLemmas.{arrives_keeps, does_keeps, link_keeps, news_keep}
-use Rattle.ft_world.proofs.KeepingLemmas.{Keeps, Makes, acted_made, as_many, behind, client_hears, client_made, client_tells, client_within, group_acts, group_sends, host_starts, host_stops, if_keeps, one_made, same, untouched}
+use Rattle.ft_world.proofs.KeepingLemmas.{Keeps, Makes, acted_made, as_many, behind, client_hears, client_made, client_tells, client_within, group_acts, group_sends, host_starts, host_stops, if_keeps, log_fails, one_made, same, untouched}
 use Rattle.ft_world.proofs.MadeLemmas.{AllMade, AreMade, GoesBy, IsIn, IsNumber, IsOfOne, Names, all_so, binding_so, more_clients, more_groups, more_messages, number_on, or_other, starting_so, starting_told, taken_so, taking_so}
 use Rattle.ft_world.proofs.PlaceLemmas.{IsOneNamed, IsOneOf, called_one, found_one}
 use Rattle.script_groups.specs.Lists.{all_get, all_push, all_set}
@@ -55,8 +55,9 @@ use Rattle.ft_world.specs.Clients.{begun, call_by, call_from, call_said, call_to
 use Rattle.ft_world.specs.Delivering.{arrives, delivered}
 use Rattle.world_management.specs.Creating.{create_causes, create_line, created, created_unless, creation, delete_found, grow_to, in_full, style_in}
 use Rattle.world_management.specs.Hosts.{change_of, change_to, changed, changes_members, crash_line, fault_of, host_causes, on_host, restart_line, show_found, started_again, stopped, with_reported}
+use Rattle.world_management.specs.Membership.{first_members, fit, report_of}
 use Rattle.ft_world.specs.Laws.{AllLater, HasMore, calls_of_groups}
-use Rattle.script_groups.specs.Laws.{CallsGoOn, NoneCalledYet}
+use Rattle.script_groups.specs.Laws.{CallsGoOn}
 use Rattle.ft_world.specs.Lines.{IsTimely}
 use Rattle.ft_world.specs.Links.{inject_line, link_of}
 use Rattle.world_management.specs.Making.{client_causes, client_line, group_causes, group_line, hosts_causes, hosts_line, kind_of, made_group, new_group, next_id, stopped_from, stopped_if, style_criteria}
@@ -75,11 +76,11 @@ use Rattle.world_monitors.specs.Subscribing.{pull_by, subscribe_line, subscriber
 use Rattle.world_monitors.specs.Staying.{reports_stay}
 use Rattle.world_monitors.specs.Sweeping.{reported, reports_all, reports_one, sweep_of, sweeps, swept}
 use Rattle.script_groups.specs.Takers.{checkpoint_taker, update_taker}
-use Rattle.world_transfers.specs.Transfers.{checkpoint_by, checkpoint_event, checkpoint_of, checkpointed, update_by, update_of, updated}
+use Rattle.world_transfers.specs.Transfers.{checkpoint_by, checkpoint_event, checkpoint_of, checkpointed, logfail_of, update_by, update_of, updated}
 use Rattle.world_turns.specs.Sending.{all_sent}
 use Rattle.world_turns.specs.Naming.{Naming, NeverMade, Deleted, There, gone, group_called}
 use Rattle.world_turns.specs.Turns.{Effect, Turn, Goes, Refused, first_cause, goes, says, unless}
-use Rattle.ft_world.proofs.LaterLemmas.{Few, more_few, all_stay, all_next, one_behind, one_behind_called}
+use Rattle.ft_world.proofs.LaterLemmas.{KnownCalls, Few, more_few, all_stay, all_next, one_behind, one_behind_called}
 
 -- T says of a line that its ticks are few.
 module _ (T : Type 0) where
@@ -87,7 +88,7 @@ module _ (T : Type 0) where
   pub record Follows (w new : World) (calls : ℕ) : Type 0 where
     pub groups : AllByRecursion IsKept w.groups → AllByRecursion IsKept new.groups
     pub later : AllLater HasMore w.groups new.groups
-    pub called : CallsGoOn → NoneCalledYet → calls_of_groups new.groups ≡ calls_of_groups w.groups + calls
+    pub called : KnownCalls → calls_of_groups new.groups ≡ calls_of_groups w.groups + calls
     pub acted : T → (lines : ℕ) → HasActed w lines → HasActed new (lines + 1)
     pub made : AllMade w → AllMade new
 
@@ -107,7 +108,7 @@ module _ (T : Type 0) where
   follows_then w v new calls a b = record {
     groups = λ all. b.groups (a.groups all);
     later = all_next w.groups v.groups new.groups a.later b.later;
-    called = λ go none. let first = a.called go none in let second = b.called go none in omega (arith, first, second);
+    called = λ known. let first = a.called known in let second = b.called known in omega (arith, first, second);
     acted = λ t lines h. let g = a.acted t lines h in record {
       clock = omega (arith, b.clock, g.clock);
       started = b.few (lines + 1) g.started;
@@ -120,7 +121,7 @@ module _ (T : Type 0) where
   client_starts w p d is starts goes = record {
     groups = λ all. all;
     later = all_stay w.groups;
-    called = λ go none. omega arith;
+    called = λ known. omega arith;
     acted = λ t lines h. record {
       clock = omega (arith, h.clock);
       started = all_set (Few (lines + 1)) w.clients p.place d (more_few lines w.clients h.started) (starts lines (all_get (Few lines) w.clients p.place p.value h.started is));
@@ -271,7 +272,8 @@ module _ (T : Type 0) where
   change_on w NeverMade change host is = refl
   change_on w (Deleted p) change host is = on_host_on w host (gone w) (same w)
   change_on w (There p) change host is =
-      on_host_on w host (changes_members w p (change_of change (host_no host)) (host_no host)) (changes_keep w p (change_of change (host_no host)) (host_no host) is)
+      on_host_on w host (changes_members w p (change_of w p.value change (host_no host)) (host_no host))
+      (changes_keep w p (change_of w p.value change (host_no host)) (host_no host) is)
 
   grow_on : (w : World) (n : Naming) (host : ℕ) → IsOneNamed w.groups n → GoesOn w (grow_to w n host)
   grow_on w NeverMade host is = refl
@@ -339,6 +341,11 @@ module _ (T : Type 0) where
       let e : Effect = update_by w p (update_taker p.value) in
       begins_none w e.world e.calls (update_keeps w p (update_taker p.value) is)
 
+  logfail_on : (w : World) (n : Naming) → IsOneNamed w.groups n → GoesOn w (logfail_of w n)
+  logfail_on w NeverMade is = refl
+  logfail_on w (Deleted p) is = begins_none w w 0 (same w)
+  logfail_on w (There p) is = begins_none w (with_failing w p.place p.value) 0 (log_fails w p is)
+
   -- ---- the monitor, and those who subscribe
 
   pings_so : (n m : ℕ) (group : GroupId) (hosts : List ℕ) → IsNumber n group → AllByRecursion (Names n m) (pings group hosts)
@@ -368,9 +375,9 @@ module _ (T : Type 0) where
   reports_keep w p [] is = same w
   reports_keep w p (host ∷ hosts) is =
       let e : Effect = reports_one w p host in
-      let f : Effect = reports_all e.world (reported p host) hosts in
-      behind w e.world f.world e.calls f.calls (changes_keep w p (changes.Report (host_no host)) (host_no host) is)
-      (reports_keep e.world (reported p host) hosts (reports_stay w p host is))
+      let f : Effect = reports_all e.world (reported w p host) hosts in
+      behind w e.world f.world e.calls f.calls (changes_keep w p (report_of w p.value (host_no host)) (host_no host) is)
+      (reports_keep e.world (reported w p host) hosts (reports_stay w p host is))
 
   sweeps_keep : (w : World) (p : Placed ScriptGroup) (hosts : List ℕ) → IsOneOf w.groups (Some p) → Makes w (sweeps w p hosts)
   sweeps_keep w p [] is = same w
@@ -491,10 +498,10 @@ module _ (T : Type 0) where
       record {
         groups = λ all. all_push IsKept w.groups g all (stopped_kept 0 w.hosts opens refl);
         later = one_behind w.groups g;
-        called = λ go none.
+        called = λ known.
             let behind = one_behind_called w.groups g in
-            let stops = stopped_called go 0 w.hosts opens in
-            let opening = none (next_id w) name kind style members in
+            let stops = stopped_called known.go_on 0 w.hosts opens in
+            let opening = known.none (next_id w) name kind style members in
             omega (arith, behind, stops, opening);
         clock = refl;
         few = λ lines f. f;
@@ -507,15 +514,16 @@ module _ (T : Type 0) where
       refused_or w (first_cause (group_causes w name members)) (goes e)
       (begins_none w e.world e.calls (made_keeps w name (kind_of kind) style members (style_criteria style)))
 
-  created_keeps : (o : Option CreateFault) (w : World) (name : List ℕ) (kind : Kind) (criteria : List Property) → Makes w (created_unless o w name kind criteria)
-  created_keeps None w name kind criteria = made_keeps w name kind (style_in (in_full w.settings kind criteria)) [] criteria
-  created_keeps (Some why) w name kind criteria = same w
+  created_keeps : (o : Option CreateFault) (w : World) (name : List ℕ) (kind : Kind) (full criteria : List Property) → Makes w (created_unless o w name kind full criteria)
+  created_keeps None w name kind full criteria = made_keeps w name kind (style_in full) (first_members w full) criteria
+  created_keeps (Some why) w name kind full criteria = same w
 
   create_on : (w : World) (name : List ℕ) (kind : KindWord) (criteria : List Property) → GoesOn w (create_line w name kind criteria)
   create_on w name kind criteria =
       let e : Effect = created w name (kind_of kind) criteria in
+      let full : List Property = in_full w.settings (kind_of kind) criteria in
       refused_or w (first_cause (create_causes w name)) (goes e)
-      (begins_none w e.world e.calls (created_keeps (refusal (in_full w.settings (kind_of kind) criteria) []) w name (kind_of kind) criteria))
+      (begins_none w e.world e.calls (created_keeps (refusal full (fit w full) []) w name (kind_of kind) full criteria))
 
   -- what is set, and groups that are deleted: each group stays as it is
   set_keeps : (w : World) (s : Settings) → Keeps w (with_settings w s) 0
@@ -568,7 +576,7 @@ module _ (T : Type 0) where
   tick_on w ticks timely = record {
     groups = λ all. all;
     later = all_stay w.groups;
-    called = λ go none. omega arith;
+    called = λ known. omega arith;
     acted = λ t lines h. record { clock = omega (arith, h.clock, timely t); started = more_few lines w.clients h.started };
     made = λ m. m;
   }
@@ -608,6 +616,7 @@ module _ (T : Type 0) where
   first_on w (lines.Pull subscriber) timely = pull_on w subscriber (pulled_of (subscriber_named w.subscribers subscriber))
   first_on w (lines.Checkpoint name) timely = checkpoint_on w (group_called w name) (called_one w name)
   first_on w (lines.Update name) timely = update_on w (group_called w name) (called_one w name)
+  first_on w (lines.LogFail name) timely = logfail_on w (group_called w name) (called_one w name)
 
 -- ---- the world after a line, before its totals are judged
 

@@ -1,4 +1,4 @@
--- Groups that may have had more events, with others behind them, and their servant calls; and clients that have begun
+-- Groups to which more may have happened, with others behind them, and their servant calls; and clients that have begun
 -- few invocations.
 use Rattle.std.proofs.Common.{◌≡◌, ℕ, zero, suc, ◌+◌, ◌≤◌, arith, List, [], ◌∷◌, ◌++◌, Some, refl, sym, ap, subst, ◌∙◌}
 use Rattle.std.specs.Prelude.{slice_get, slice_set}
@@ -6,9 +6,11 @@ use Rattle.std.specs.List.{AllByRecursion}
 use Rattle.std.proofs.lemmas.List.Sums.{sum_by-cons}
 use Rattle.group_model.specs.declared.events.Event.{Event}
 use Rattle.script_clients.specs.Clients.{Client}
-use Rattle.script_groups.specs.Groups.{ScriptGroup, acted, all_acted, servant_calls, with_more, turn}
-use Rattle.script_groups.specs.Laws.{CallsGoOn}
+use Rattle.script_groups.specs.Groups.{ScriptGroup, acted, all_acted, servant_calls, turn, with_more}
+use Rattle.script_groups.specs.Laws.{CallsGoOn, FailuresChangeNothing, NoneCalledYet}
 use Rattle.script_groups.specs.Lists.{same_some}
+use Rattle.script_groups.specs.declared.happenings.Happening.{Happening}
+use Rattle.script_groups.specs.declared.happenings.Happening.TheVariants as happenings
 use Rattle.ft_world.specs.Laws.{AllLater, HasMore, calls_of_groups}
 
 -- ---- clients
@@ -24,26 +26,26 @@ pub more_few : (lines : ℕ) (cs : List Client) → AreFew lines cs → AreFew (
 more_few lines [] few = tt
 more_few lines (c ∷ cs) few = ((omega (arith, few.0.0), omega (arith, few.0.1)), more_few lines cs few.1)
 
--- ---- groups, each of which may have had more events, and others behind them
+-- ---- groups, to each of which more may have happened, and others behind them
 
-pub events_on : (es fs gs : List Event) → (es ++ fs) ++ gs ≡ es ++ (fs ++ gs)
-events_on [] fs gs = refl
-events_on (e ∷ es) fs gs = ap (λ (rest : List Event). e ∷ rest) (events_on es fs gs)
+happenings_on : (es fs gs : List Happening) → (es ++ fs) ++ gs ≡ es ++ (fs ++ gs)
+happenings_on [] fs gs = refl
+happenings_on (e ∷ es) fs gs = ap (λ (rest : List Happening). e ∷ rest) (happenings_on es fs gs)
 
-pub none_behind : (es : List Event) → es ≡ es ++ []
+none_behind : (es : List Happening) → es ≡ es ++ []
 none_behind [] = refl
-none_behind (e ∷ es) = ap (λ (rest : List Event). e ∷ rest) (none_behind es)
+none_behind (e ∷ es) = ap (λ (rest : List Happening). e ∷ rest) (none_behind es)
 
 pub no_more : (g : ScriptGroup) → HasMore g g
-no_more g = record { more = []; is = ap (λ (es : List Event). record g { events = es }) (none_behind g.events) }
+no_more g = record { more = []; is = ap (λ (es : List Happening). record g { happenings = es }) (none_behind g.happenings) }
 
-pub one_more_event : (g : ScriptGroup) (e : Event) → HasMore g (acted g e)
-one_more_event g e = record { more = e ∷ []; is = refl }
+one_more : (g : ScriptGroup) (h : Happening) → HasMore g (with_more g (h ∷ []))
+one_more g h = record { more = h ∷ []; is = refl }
 
 pub more_on : (f g h : ScriptGroup) → HasMore f g → HasMore g h → HasMore f h
 more_on f g h a b = record {
   more = a.more ++ b.more;
-  is = b.is ∙ ap (λ (x : ScriptGroup). with_more x b.more) a.is ∙ ap (λ (es : List Event). record f { events = es }) (events_on f.events a.more b.more);
+  is = b.is ∙ ap (λ (x : ScriptGroup). with_more x b.more) a.is ∙ ap (λ (es : List Happening). record f { happenings = es }) (happenings_on f.happenings a.more b.more);
 }
 
 pub all_stay : (gs : List ScriptGroup) → AllLater HasMore gs gs
@@ -56,20 +58,37 @@ all_next (f ∷ fs) [] hs a b = absurd a
 all_next (f ∷ fs) (g ∷ gs) [] a b = absurd b
 all_next (f ∷ fs) (g ∷ gs) (h ∷ hs) a b = (more_on f g h a.0 b.0, all_next fs gs hs a.1 b.1)
 
-pub one_later : (gs : List ScriptGroup) (i : ℕ) (g : ScriptGroup) (e : Event) → slice_get gs i ≡ Some g → AllLater HasMore gs (slice_set gs i (acted g e))
-one_later [] i g e at = tt
-one_later (x ∷ gs) zero g e at = (subst (λ (y : ScriptGroup). HasMore y (acted g e)) (sym (same_some x g at)) (one_more_event g e), all_stay gs)
-one_later (x ∷ gs) (suc i) g e at = (no_more x, one_later gs i g e at)
+pub one_later : (gs : List ScriptGroup) (i : ℕ) (g : ScriptGroup) (h : Happening) → slice_get gs i ≡ Some g → AllLater HasMore gs (slice_set gs i (with_more g (h ∷ [])))
+one_later [] i g h at = tt
+one_later (x ∷ gs) zero g h at = (subst (λ (y : ScriptGroup). HasMore y (with_more g (h ∷ []))) (sym (same_some x g at)) (one_more g h), all_stay gs)
+one_later (x ∷ gs) (suc i) g h at = (no_more x, one_later gs i g h at)
 
 pub each_later : (e : Event) (gs : List ScriptGroup) → AllLater HasMore gs (all_acted e gs)
 each_later e [] = tt
-each_later e (g ∷ gs) = (one_more_event g e, each_later e gs)
+each_later e (g ∷ gs) = (one_more g (happenings.Event e), each_later e gs)
 
 pub one_behind : (gs : List ScriptGroup) (g : ScriptGroup) → AllLater HasMore gs (gs ++ g ∷ [])
 one_behind [] g = tt
 one_behind (x ∷ gs) g = (no_more x, one_behind gs g)
 
 -- ---- their servant calls
+
+-- what is known of every group's
+pub record KnownCalls : Type 0 where
+  pub none : NoneCalledYet
+  pub go_on : CallsGoOn
+  pub failing : FailuresChangeNothing
+
+-- the same where a group calls as often as before
+pub as_often : (gs : List ScriptGroup) (i : ℕ) (g h : ScriptGroup) → slice_get gs i ≡ Some g → servant_calls h ≡ servant_calls g →
+    calls_of_groups (slice_set gs i h) ≡ calls_of_groups gs
+as_often [] i g h at same = refl
+as_often (x ∷ gs) zero g h at same =
+    let was = ap servant_calls (same_some x g at) in
+    omega (arith, same, was, sum_by-cons servant_calls h gs, sum_by-cons servant_calls x gs)
+as_often (x ∷ gs) (suc i) g h at same =
+    let there = as_often gs i g h at same in
+    omega (arith, there, sum_by-cons servant_calls x gs, sum_by-cons servant_calls x (slice_set gs i h))
 
 module _ (calls_go_on : CallsGoOn) where
   pub one_called : (gs : List ScriptGroup) (i : ℕ) (g : ScriptGroup) (e : Event) → slice_get gs i ≡ Some g →

@@ -13,4 +13,5 @@ pub mod KeepingLemmas
 pub mod ComingLemmas
 pub mod KeptLemmas
 pub mod JournalLemmas
+pub mod ReplyOnceLemmas
 pub mod AnswerLemmas

@@ -1,7 +1,6 @@
 -- A message of a link, and the link's end.
 use Rattle.std.proofs.Common.{◌≡◌, ℕ, suc, ◌+◌, ◌≤◌, Bool, true, false, List, [], ◌∷◌, ◌++◌, Option, Some, None, refl, sym, ap, subst, ◌∙◌, arith, append_assoc, append-nil, inl, inr}
 use Rattle.std.specs.Prelude.{if◌then◌else◌, length, not, Result, Ok, Err, OnOk, slice_get}
-use Rattle.fault_script.specs.declared.lines.LineFault.TheVariants.{Unknown}
 use Rattle.ft_base.specs.declared.decisions.Stop.TheVariants.{Never}
 use Rattle.ft_base.specs.declared.memory.NoMemory.{NoMemory}
 use Rattle.ft_base.specs.declared.numbers.HostNo.{HostNo}
@@ -24,7 +23,7 @@ use Rattle.link_session.specs.Calls.{calling_of}
 use Rattle.link_session.specs.Exchanges.{Exchanging}
 use Rattle.link_session.specs.Loops.{IsOver}
 use Rattle.link_session.specs.Ports.{called, end_error, linked, locate_reply_of, reply_of, step, writes}
-use Rattle.link_session.specs.Serving.{IsAnswered, IsDown, IsShort, IsStepped, Meets, bytes_of, meets_served, IsServed as AreServed, written as to_write}
+use Rattle.link_session.specs.Serving.{bytes_of, IsAnswered, IsDown, IsServed as AreServed, IsShort, IsStepped, Meets, meets_served, written as to_write}
 use Rattle.link_session.specs.declared.calls.Calling.{Calling}
 use Rattle.link_session.specs.declared.calls.Calling.TheVariants.{Ask, Locate, Nothing}
 use Rattle.link_session.specs.declared.ports.Stepped.{Stepped}
@@ -33,14 +32,13 @@ use Rattle.script_groups.specs.Groups.{ScriptGroup, Placed}
 use Rattle.script_world.specs.declared.hosts.HostState.{HostState}
 use Rattle.script_world.specs.Sound.{IsKeptWorld}
 use Rattle.script_world.specs.World.{World, is_there, is_up, up_of}
-use Rattle.world_turns.specs.Answers.{HasDone, calls_of}
-use Rattle.world_turns.specs.Doing.{acts_by}
+use Rattle.world_turns.specs.Answers.{HasDone}
 use Rattle.world_turns.specs.Sending.{sent_line, sent_lines}
-use Rattle.world_turns.specs.Turns.{Effect, Turn, Goes, cause, effect, first_cause, goes, says, unless}
+use Rattle.world_turns.specs.Turns.{Effect, effect, says}
 use Rattle.ft_world.specs.declared.asking.Said.{Said}
 use Rattle.ft_world.specs.declared.asking.Said.TheVariants as saids
 use Rattle.ft_world.specs.Requests.{ask}
-use Rattle.ft_world.specs.Links.{PortTurn, bytes_lines, end_line, further_by, group_keyed, inject_line, is_here, link_of, port_turn, turn_by, unheard_turn, with_end, world_port}
+use Rattle.ft_world.specs.Links.{PortTurn, bytes_lines, end_line, further_by, group_keyed, is_here, link_of, port_turn, turn_by, unheard_turn, with_end, world_port}
 use Rattle.ft_world.specs.Passes.{Exchanges, Fits, HasAnswered, IsExchanged, IsLinkServed, IsMade, IsToldOf, Lines, Pass, is_stopped, lines_at, looks, octets, octets_of, pass_at, turn_at, with_turn}
 use Rattle.ft_world.specs.Serving.{Changes, IsChange, IsServed, IsTaken, IsWithin}
 
@@ -450,26 +448,3 @@ module _ (P : World → ℕ → World → ℕ → List ReportLine → Type 0) wh
       subst (λ (ls : List ReportLine). P w k x n ls) (sym printed)
       (subst (λ (y : World). P w k y n last) (sym to)
       (subst (λ (i : ℕ). P w k u i last) (sym counted) (subst (λ (i : ℕ). P w i u m last) from (subst (λ (y : World). P y l u m last) at p))))
-
--- ---- the line
-
-pub inject_is : (w : World) (number : ℕ) (host : HostNo) (bytes : List ℕ) → is_there w number ≡ true → host.0 ≡ number → is_up w host.0 ≡ true →
-    inject_line w number bytes ≡ goes (link_of w host.0 bytes)
-inject_is w number host bytes there is up =
-    ap (λ (b : Bool). unless (first_cause (cause (not b) Unknown ∷ [])) 0 (goes (if is_up w number then link_of w number bytes else says w (reports.LinkLost ∷ [])))) there
-    ∙ ap (λ (n : ℕ). goes (if is_up w n then link_of w n bytes else says w (reports.LinkLost ∷ []))) (sym is)
-    ∙ ap (λ (b : Bool). goes (if b then link_of w host.0 bytes else says w (reports.LinkLost ∷ []))) up
-
--- the link was served
-pub injected : (w new : World) (number : ℕ) (host : HostNo) (bytes : List ℕ) (report : List ReportLine) (before now : ℕ) →
-    is_there w number ≡ true → host.0 ≡ number → is_up w host.0 ≡ true → HasDone (link_of w host.0 bytes) report new before now →
-    (inject_line w number bytes ≡ Goes new report (calls_of (inject_line w number bytes))) × (now ≡ before + calls_of (inject_line w number bytes))
-injected w new number host bytes report before now there is up done =
-    acts_by (inject_line w number bytes) (link_of w host.0 bytes) report new before now (inject_is w number host bytes there is up) done
-
--- memory was wanted in it
-pub inject_short : (w : World) (number : ℕ) (host : HostNo) (bytes : List ℕ) (before now : ℕ) →
-    is_there w number ≡ true → host.0 ≡ number → is_up w host.0 ≡ true → now ≤ before + (link_of w host.0 bytes).calls →
-    now ≤ before + calls_of (inject_line w number bytes)
-inject_short w number host bytes before now there is up short =
-    subst (λ (t : Turn). now ≤ before + calls_of t) (sym (inject_is w number host bytes there is up)) short

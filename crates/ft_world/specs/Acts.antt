@@ -14,7 +14,7 @@ use Rattle.script_world.specs.World.{World}
 use Rattle.world_monitors.specs.Polling.{poll_line}
 use Rattle.world_monitors.specs.Subscribing.{pull_line, subscribe_line, unsubscribe_line}
 use Rattle.world_monitors.specs.Sweeping.{sweep_line}
-use Rattle.world_transfers.specs.Transfers.{checkpoint_line, update_line}
+use Rattle.world_transfers.specs.Transfers.{checkpoint_line, logfail_line, update_line}
 use Rattle.world_turns.specs.Turns.{Turn, judged}
 
 -- before its totals are judged
@@ -51,6 +51,7 @@ act_first w (lines.Unsubscribe subscriber) = unsubscribe_line w subscriber
 act_first w (lines.Pull subscriber) = pull_line w subscriber
 act_first w (lines.Checkpoint name) = checkpoint_line w name
 act_first w (lines.Update name) = update_line w name
+act_first w (lines.LogFail name) = logfail_line w name
 
 abbrev pub act : World → Line → Turn
 act w line = judged (act_first w line)

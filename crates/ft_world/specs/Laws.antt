@@ -7,11 +7,11 @@ use Rattle.ft_base.specs.declared.numbers.HostNo.{HostNo}
 use Rattle.ft_base.specs.declared.numbers.Tick.{Tick}
 use Rattle.fault_script.specs.declared.lines.Line.{Line}
 use Rattle.group_model.specs.declared.asking.Asked.{Asked}
-use Rattle.group_model.specs.declared.events.Event.{Event}
 use Rattle.group_model.specs.declared.events.Event.TheVariants as events
 use Rattle.group_model.specs.Decisions.{known_then}
 use Rattle.group_model.specs.Views.{newest}
 use Rattle.script_groups.specs.Groups.{ScriptGroup, acted, common_of, entries_caught_up, entries_run, group_of, orders_applied, reply_of, servant_calls, turn, with_more}
+use Rattle.script_groups.specs.declared.happenings.Happening.{Happening}
 use Rattle.script_world.specs.World.{World, empty}
 use Rattle.ft_world.specs.Acts.{act, act_first}
 use Rattle.world_turns.specs.Answers.{calls_of}
@@ -46,9 +46,9 @@ AllLater R [] hs = Unit {0}
 AllLater R (g ∷ gs) [] = ⊥
 AllLater R (g ∷ gs) (h ∷ hs) = R g h × AllLater R gs hs
 
--- a group, and the same with more events
+-- a group, and the same to which more has happened
 pub record HasMore (g h : ScriptGroup) : Type 0 where
-  pub more : List Event
+  pub more : List Happening
   pub is : h ≡ with_more g more
 
 -- What a group has accepted it keeps, each entry at its place; and the reply that the journal gives it never changes.

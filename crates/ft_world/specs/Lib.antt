@@ -9,4 +9,5 @@ pub mod Lines
 pub mod Acts
 pub mod Serving
 pub mod Laws
+pub mod Replying
 pub mod DeadArms

@@ -25,7 +25,7 @@ use world_management::{
     restart_line, set_group_line, set_line, show_line, tick_line, unset_line,
 };
 use world_monitors::{poll_line, pull_line, subscribe_line, sweep_line, unsubscribe_line};
-use world_transfers::{checkpoint_line, update_line};
+use world_transfers::{checkpoint_line, logfail_line, update_line};
 
 // Time goes on by a number of 32 bits.
 fn is_timely(line: &Line)
@@ -137,6 +137,7 @@ fn act_first<L: Ledger>(
         Line::Pull(subscriber) => pull_line(world, subscriber.copy(alloc)?),
         Line::Checkpoint(name) => checkpoint_line(world, name, steps),
         Line::Update(name) => update_line(world, name, steps),
+        Line::LogFail(name) => logfail_line(world, name),
     }
 }
 

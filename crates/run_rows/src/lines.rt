@@ -45,20 +45,10 @@ fn valued(alloc: Global, par: Par, form: &[u8]) -> Result<ReportLine, NoMemory>
     done(alloc, CallEnd::Shown(ReportOutcome::Value(worth)))
 }
 
-// A log that fails, and want of memory.
-fn failures(alloc: Global, lines: &mut ReportLines) -> Result<(), NoMemory> {
-    let group = name(alloc, b"bank")?;
-    lines.push(at(alloc, Decision::LogFault)?)?;
-    lines.push(ReportLine::CheckpointFailed { group })?;
-    lines.push(ReportLine::Refused(ManageFault::LogFault))?;
-    lines.push(ReportLine::Refused(ManageFault::NoMemory))
-}
-
-const FAILED: &[u8] =
-    b"at 0 bank logfault\ncheckpoint bank logfault\nrefused PERSIST_STORE\nrefused NO_MEMORY\n";
-
-// Arguments that are too long for a line, causes that no message of GIOP 1.2 has, a value that no property has.
+// Want of memory, arguments that are too long for a line, causes that no message of GIOP 1.2 has, a value that no property
+// has.
 fn sizes(alloc: Global, lines: &mut ReportLines) -> Result<(), NoMemory> {
+    lines.push(ReportLine::Refused(ManageFault::NoMemory))?;
     lines.push(at(alloc, Decision::Long(4097))?)?;
     lines.push(ReportLine::LinkMalformed {
         why: Why::BadBool,
@@ -74,7 +64,7 @@ fn sizes(alloc: Global, lines: &mut ReportLines) -> Result<(), NoMemory> {
 }
 
 const SIZED: &str =
-    "at 0 bank long 4097\nlink malformed badbool 12\nlink malformed badorder 4294967295\nproperty org.omg.ft.Factories \u{e9}\n";
+    "refused NO_MEMORY\nat 0 bank long 4097\nlink malformed badbool 12\nlink malformed badorder 4294967295\nproperty org.omg.ft.Factories \u{e9}\n";
 
 // Ends of an invocation that no host brings about.
 fn ends(alloc: Global, lines: &mut ReportLines) -> Result<(), NoMemory> {
@@ -110,9 +100,6 @@ const VALUED: &[u8] =
 #[test]
 fn lines_that_no_script_prints(rt: HostRuntime) -> Result<(), NoMemory> {
     let alloc = rt.alloc();
-    let mut failed = ReportLines::new(alloc);
-    failures(alloc, &mut failed)?;
-    assert!(rt; failed.into_bytes().bytes() == FAILED);
     let mut sized = ReportLines::new(alloc);
     sizes(alloc, &mut sized)?;
     assert!(rt; sized.into_bytes().bytes() == SIZED.as_bytes());
@@ -139,7 +126,7 @@ fn said(
     };
     match read_line(alloc, line) {
         Ok(Some(Line::Call { words, .. })) => call_words(alloc, Some(signature), &words),
-        _ => Err(LineFault::Later),
+        _ => Err(LineFault::Syntax),
     }
 }
 

@@ -139,12 +139,18 @@ fn words_have_their_status(rt: HostRuntime) -> Result<(), NoMemory> {
 }
 
 // Words of the command line, a script, and how often servants are called in its run.
-const CALLS: [(&[&str], &str, u64); 9] = [
+const CALLS: [(&[&str], &str, u64); 10] = [
     (&["run"], "", 0),
     // a request that comes three times
     (
         &["run"],
         "hosts 1\ngroup bank account cold 0\nclient ann\ncall ann bank deposit 5\ndeliver 1\ndeliver 1\ndeliver 1\n",
+        1,
+    ),
+    // a request that can't be written, and is accepted when it comes again
+    (
+        &["run"],
+        "hosts 1\ngroup bank account cold 0\nclient ann\ncall ann bank deposit 5\nlogfail bank\ndeliver 1\ndeliver 1\n",
         1,
     ),
     // the primary stops between its append and the servant, and the next member takes over

@@ -9,7 +9,8 @@ use Rattle.ft_report.specs.Report.{report_text}
 use Rattle.ft_report.specs.declared.reports.ReportLine.{ReportLine}
 use Rattle.ft_world.specs.Acts.{act, act_first}
 use Rattle.ft_world.specs.Laws.{AllLater, KeepsEntries, ScriptsAcceptOnce, ScriptsKeepEntries, ServantsAreCalled, calls_from, or_end, worked, world_after}
-use Rattle.run_top.specs.Lines.{RunsAcceptOnce, RunsAreOfLines, RunsCallServants, RunsKeepEntries, in_front_read, lines_read, report_of, reports_from, script_lines}
+use Rattle.ft_world.specs.Replying.{DeliveriesTellOnce}
+use Rattle.run_top.specs.Lines.{RunsAcceptOnce, RunsAreOfLines, RunsCallServants, RunsKeepEntries, RunsTellOnce, in_front_read, lines_read, report_of, reports_from, script_lines, world_at}
 use Rattle.run_top.specs.Playing.{effect_of, printed_effect, rules}
 use Rattle.script_pieces.specs.Runs.{RunEffect, lines_of, onward, refusal, run_of_lines, script_limit, text_of}
 use Rattle.script_world.specs.World.{World, empty}
@@ -93,3 +94,6 @@ module _ (law : ScriptsKeepEntries) where
 
 pub runs_call_servants : ServantsAreCalled → RunsCallServants
 runs_call_servants law bytes = (runs_are_of_lines bytes).calls ∙ law (script_lines bytes)
+
+pub runs_tell_once : DeliveriesTellOnce → RunsTellOnce
+runs_tell_once law bytes count k stop = law (world_at bytes count) k stop

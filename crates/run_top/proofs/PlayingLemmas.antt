@@ -3,7 +3,7 @@ use Rattle.std.proofs.Common.{◌≡◌, ℕ, ◌+◌, ◌≤◌, ◌⊎◌, ⊎
 use Rattle.std.specs.List.{AllByRecursion}
 use Rattle.fault_script.specs.declared.lines.Line.{Line}
 use Rattle.fault_script.specs.declared.lines.LineFault.{LineFault}
-use Rattle.fault_script.specs.declared.lines.LineFault.TheVariants.{Syntax, Unknown, Again, Limit, Later, NoMemory}
+use Rattle.fault_script.specs.declared.lines.LineFault.TheVariants.{Syntax, Unknown, Again, Limit, NoMemory}
 use Rattle.world_turns.specs.Answers as world_answers
 use Rattle.world_turns.specs.Answers.{DidNot}
 use Rattle.world_turns.specs.Turns as world
@@ -30,7 +30,6 @@ not_acted t Syntax new before later did = (world_answers.calls_of t, ap printed_
 not_acted t Unknown new before later did = (world_answers.calls_of t, ap printed_effect did.0, did.1)
 not_acted t Again new before later did = (world_answers.calls_of t, ap printed_effect did.0, did.1)
 not_acted t (Limit name) new before later did = (world_answers.calls_of t, ap printed_effect did.0, did.1)
-not_acted t Later new before later did = (world_answers.calls_of t, ap printed_effect did.0, did.1)
 
 refused_read : (w : World) (read : Result (Option Line) LineFault) (why : LineFault) (steps : ℕ) → read ≡ Err why →
     IsActed (effect_of w read) w steps steps (refusal why)
@@ -39,7 +38,6 @@ refused_read w read Syntax steps is = (0, ap (effect_of w) is, omega arith)
 refused_read w read Unknown steps is = (0, ap (effect_of w) is, omega arith)
 refused_read w read Again steps is = (0, ap (effect_of w) is, omega arith)
 refused_read w read (Limit name) steps is = (0, ap (effect_of w) is, omega arith)
-refused_read w read Later steps is = (0, ap (effect_of w) is, omega arith)
 
 -- and so is a refusal of what was read
 pub not_read : (w : World) (read : Result (Option Line) LineFault) (why : LineFault) (steps : ℕ) → (why ≡ NoMemory) ⊎ (read ≡ Err why) →

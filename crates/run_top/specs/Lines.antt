@@ -2,11 +2,14 @@
 use Rattle.std.specs.Prelude.{◌≡◌, ℕ, ◌+◌, ◌++◌, nat_lt, if◌then◌else◌, flat_map, sum_by, List, [], ◌∷◌, length, take, Option, Some, None, Result, Ok, Err}
 use Rattle.fault_script.specs.Forms.{parse}
 use Rattle.fault_script.specs.declared.lines.Line.{Line}
+use Rattle.fault_script.specs.declared.lines.Line.TheVariants as lines
 use Rattle.fault_script.specs.declared.lines.LineFault.{LineFault}
+use Rattle.ft_base.specs.declared.decisions.Stop.{Stop}
 use Rattle.ft_report.specs.Report.{report_text}
 use Rattle.ft_report.specs.declared.reports.ReportLine.{ReportLine}
 use Rattle.ft_world.specs.Acts.{act, act_first}
 use Rattle.ft_world.specs.Laws.{AllLater, EachOnce, KeepsEntries, calls_from, or_end, worked, world_after}
+use Rattle.ft_world.specs.Replying.{TurnTellsOnce}
 use Rattle.run_top.specs.Headline.{Run, script_run}
 use Rattle.script_groups.specs.Groups.{entries_caught_up, entries_run, orders_applied}
 use Rattle.script_pieces.specs.Runs.{lines_of, script_limit, text_of}
@@ -75,3 +78,8 @@ abbrev pub RunsCallServants : Type 0
 RunsCallServants = (bytes : List ℕ) →
     let gs = (last_world bytes).groups in
     (script_run bytes).calls ≡ sum_by entries_run gs + sum_by entries_caught_up gs + sum_by orders_applied gs
+
+-- One reply: where the next line is a delivery that prints `append I` or `repeat I`, the reply below it is entry I's, unless
+-- the host stopped.
+abbrev pub RunsTellOnce : Type 0
+RunsTellOnce = (bytes : List ℕ) (count k : ℕ) (stop : Stop) → TurnTellsOnce (act_first (world_at bytes count) (lines.Deliver k stop))

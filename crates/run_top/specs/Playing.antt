@@ -42,4 +42,3 @@ refusal faults.Syntax = results.Stops faults.Syntax
 refusal faults.Unknown = results.Stops faults.Unknown
 refusal faults.Again = results.Stops faults.Again
 refusal (faults.Limit name) = results.Stops (faults.Limit name)
-refusal faults.Later = results.Stops faults.Later

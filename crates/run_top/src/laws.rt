@@ -1,8 +1,10 @@
 //! The laws of runs. The functions do nothing: their contracts are facts.
 ghost use Rattle.run_top.specs.Laws.{MadeRunsAreRuns};
-ghost use Rattle.run_top.specs.Lines.{RunsAcceptOnce, RunsAreOfLines, RunsCallServants, RunsKeepEntries};
+ghost use Rattle.run_top.specs.Lines.{RunsAcceptOnce, RunsAreOfLines, RunsCallServants, RunsKeepEntries, RunsTellOnce};
 
-use ft_world::{scripts_accept_once, scripts_keep_entries, servants_are_called};
+use ft_world::{
+    requests_are_replied_once, scripts_accept_once, scripts_keep_entries, servants_are_called,
+};
 
 /// A script prints what its lines print, one after another up to the first that is refused, and calls servants as
 /// they do, that line's calls included.
@@ -23,6 +25,14 @@ pub fn runs_keep_entries()
     ensures { RunsKeepEntries }
 {
     scripts_keep_entries();
+}
+
+/// One reply: after any line of a script, a delivery that prints that a request was appended, or repeats an entry, prints
+/// that entry's one reply below it, unless the host stops.
+pub fn runs_tell_once()
+    ensures { RunsTellOnce }
+{
+    requests_are_replied_once();
 }
 
 /// The servant calls of a run are, in number, the accepted entries that were run, the entries that hosts caught up with,

@@ -20,6 +20,7 @@ mod words;
 
 pub use laws::{
     made_runs_are_runs, runs_accept_once, runs_are_of_lines, runs_call_servants, runs_keep_entries,
+    runs_tell_once,
 };
 pub use playing::Script;
 pub use runs::ftc_run;

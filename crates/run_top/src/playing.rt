@@ -29,11 +29,9 @@ fn refusal(why: LineFault) -> LineResult<LineFault>
 {
     match why {
         LineFault::NoMemory => LineResult::NoMemory,
-        LineFault::Syntax
-        | LineFault::Unknown
-        | LineFault::Again
-        | LineFault::Limit(_)
-        | LineFault::Later => LineResult::Stops(why),
+        LineFault::Syntax | LineFault::Unknown | LineFault::Again | LineFault::Limit(_) => {
+            LineResult::Stops(why)
+        }
     }
 }
 

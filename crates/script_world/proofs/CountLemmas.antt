@@ -39,6 +39,12 @@ pub counted_on : (count : Option ℕ) (others : ℕ) (gs : List ScriptGroup) (i 
 counted_on None others gs i g h at sum is = tt
 counted_on (Some n) others gs i g h at sum is = omega (arith, sum, is, entries_set gs i g h at)
 
+-- it stands where the group has accepted as much as before
+pub counted_still : (count : Option ℕ) (gs : List ScriptGroup) (i : ℕ) (g h : ScriptGroup) → slice_get gs i ≡ Some g →
+    length (common_of h).journal ≡ length (common_of g).journal → IfSome count (λ n. n ≡ entries_of gs) → IfSome count (λ n. n ≡ entries_of (slice_set gs i h))
+counted_still None gs i g h at same is = tt
+counted_still (Some n) gs i g h at same is = omega (arith, same, is, entries_set gs i g h at)
+
 -- memory was not wanted in groups that have all had an event
 pub kept_acted : (gs : List ScriptGroup) (e : Event) → AreKept gs → AreKept (all_acted e gs)
 kept_acted [] e all = tt

@@ -5,3 +5,4 @@ pub mod Loops
 pub mod CountLemmas
 pub mod ClientLemmas
 pub mod NameLemmas
+pub mod FailureLemmas

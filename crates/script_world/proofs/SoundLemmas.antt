@@ -1,6 +1,6 @@
 -- What every world keeps, through each small change of it.
 use Rattle.std.proofs.Common.{◌≡◌, ℕ, zero, suc, ◌+◌, ◌<◌, ◌≤◌, arith, Bool, true, false, cond, List, [], ◌∷◌, ◌++◌, length, Option, Some, None, refl, sym, ap, subst, ◌∙◌, inl, inr}
-use Rattle.std.specs.Prelude.{slice_get, slice_set, map, option_map, Result, Ok, Err}
+use Rattle.std.specs.Prelude.{slice_get, slice_set, map, option_map, OnErr, OnOk, Result, Ok, Err}
 use Rattle.std.specs.List.{AllByRecursion}
 use Rattle.ft_base.specs.declared.limits.TheConstants.{HOST_LIMIT}
 use Rattle.group_model.specs.declared.events.Event.{Event}
@@ -17,8 +17,8 @@ use Rattle.property_manager.specs.declared.faults.PropertyFault.{PropertyFault}
 use Rattle.property_manager.specs.declared.settings.Property.{Property}
 use Rattle.property_manager.specs.Groups.{IsSetFor, Settings, dropped, put_group, taken, with_dynamic, group_of as levels_for}
 use Rattle.script_groups.specs.Acting.{HasTurn, IsActed, IsSoundGroup, MayCome, poisoned}
-use Rattle.script_groups.specs.Groups.{ScriptGroup, Placed, acted, all_acted, group_numbered, group_of, placed}
-use Rattle.script_groups.specs.Laws.{EventsLast, GroupsStaySound, SentMayCome}
+use Rattle.script_groups.specs.Groups.{ScriptGroup, Placed, acted, all_acted, failing, group_numbered, group_of, placed, steps_of}
+use Rattle.script_groups.specs.Laws.{EventsLast, FailingLetsCome, FailingStaysSound, GroupsStaySound, SentMayCome}
 use Rattle.script_groups.specs.Lists.{all_get, all_push, all_set, get_set}
 use Rattle.script_world.specs.declared.messages.Message.{Message}
 use Rattle.script_world.specs.declared.messages.Message.TheVariants as messages
@@ -55,7 +55,7 @@ pub follows_same : (g : ScriptGroup) → IsSoundGroup g → Follows g g
 follows_same g sound = record { id = refl; sound = sound; may = λ out may. may }
 
 same_group : (g : ScriptGroup) → group_of (poisoned g) ≡ group_of g
-unfolding group_of
+unfolding group_of steps_of
 same_group g = refl
 
 pub follows_poisoned : (g : ScriptGroup) → IsSoundGroup g → Follows g (poisoned g)
@@ -255,6 +255,18 @@ module _ (w : World) (place : ℕ) (e : Event) (g h : ScriptGroup) (answer : Gro
       go answers.LogFault it = turned answers.LogFault it
       go answers.Down it = turned answers.Down it
       go answers.Up it = turned answers.Up it
+
+-- ---- a log whose next write is to fail, or a group that was left
+
+pub failing_sound : {E : Type 0} → FailingStaysSound → FailingLetsCome → (w : World) (place : ℕ) (g : ScriptGroup) (hs : List ScriptGroup) (r : Result (Unit {0}) E) →
+    slice_get w.groups place ≡ Some g → OnOk r (hs ≡ slice_set w.groups place (failing g)) → OnErr r (hs ≡ w.groups) → IsSound w → IsSound (record w { groups = hs })
+failing_sound stay come w place g hs (Ok done) there is left sound =
+    let its_own = all_get IsSoundGroup w.groups place g sound.groups there in
+    subst (λ gs. IsSound (record w { groups = gs })) (sym is)
+    (sound_groups w (slice_set w.groups place (failing g)) sound
+    (all_follow_set w.groups place g (failing g) sound.groups there
+    (record { id = refl; sound = stay g its_own; may = λ out may. come g (brought out) may })))
+failing_sound stay come w place g hs (Err why) there is left sound = subst (λ gs. IsSound (record w { groups = gs })) (sym left) sound
 
 -- ---- one more group
 

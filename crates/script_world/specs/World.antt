@@ -10,7 +10,7 @@ use Rattle.group_model.specs.declared.events.Out.{Out}
 use Rattle.property_manager.specs.declared.settings.Property.{Property}
 use Rattle.property_manager.specs.Groups.{Settings, dropped, group_of, nothing_set, put_group, taken}
 use Rattle.script_clients.specs.Clients.{Client}
-use Rattle.script_groups.specs.Groups.{ScriptGroup, Placed, acted, all_acted, found}
+use Rattle.script_groups.specs.Groups.{ScriptGroup, Placed, acted, all_acted, failing, found}
 use Rattle.script_monitor.specs.Watches.{Watches, nobody}
 use Rattle.script_subscribers.specs.Subscribers.{Subscriber, Subscribers, nobody_listens, told}
 use Rattle.script_world.specs.declared.hosts.HostState.{HostState}
@@ -91,6 +91,10 @@ message_numbered w k = if k == 0 then None else slice_get w.messages (k - 1)
 
 abbrev pub with_event : World → ℕ → ScriptGroup → Event → World
 with_event w place g e = record w { groups = slice_set w.groups place (acted g e) }
+
+-- the next write of this group's log fails
+abbrev pub with_failing : World → ℕ → ScriptGroup → World
+with_failing w place g = record w { groups = slice_set w.groups place (failing g) }
 
 abbrev pub with_client : World → ℕ → Client → World
 with_client w place c = record w { clients = slice_set w.clients place c }

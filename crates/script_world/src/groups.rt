@@ -1,10 +1,10 @@
 //! The groups of a world, found by their names in a map, and how many requests they have accepted together.
-ghost use Rattle.std.specs.Prelude.{◌≡◌, ◌+◌, ◌*◌, ◌<◌, ◌≤◌, ◌++◌, ◌∷◌, [], Some, length, slice_get, IfSome, OnErr, OnOk};
+ghost use Rattle.std.specs.Prelude.{◌≡◌, ◌+◌, ◌*◌, ◌<◌, ◌≤◌, ◌++◌, ◌∷◌, [], Some, length, slice_get, slice_set, IfSome, OnErr, OnOk};
 ghost use Rattle.std.specs.List.{AllByRecursion, list_any};
 ghost use Rattle.std.specs.Str.{bytes_eq};
 ghost use Rattle.ft_base.specs.declared.limits.TheConstants.{HOST_LIMIT, JOURNAL_LIMIT};
 ghost use Rattle.script_groups.specs.Acting.{AreKept, IsKept, IsSoundGroup, MayCome, poisoned};
-ghost use Rattle.script_groups.specs.Groups.{ScriptGroup as Group, acted, all_acted, common_of, entries_of, group_named};
+ghost use Rattle.script_groups.specs.Groups.{ScriptGroup as Group, acted, all_acted, common_of, entries_of, failing, group_named};
 ghost use Rattle.script_world.specs.Counting.{IsActedAt};
 ghost use Rattle.script_world.specs.Worlds.{AreOrHave, IsMade, IsPlace, power_event};
 
@@ -12,7 +12,7 @@ use crate::limits::GROUP_LIMIT;
 use ft_base::{HOST_LIMIT, HostNo, Name, NoMemory, Steps};
 use group_model::{Event, GroupAnswer};
 use name_places::NamePlaces;
-use script_groups::ScriptGroup;
+use script_groups::{ScriptGroup, failures_come_once};
 use std::alloc::Global;
 use std::marker::Model;
 use std::sync::ledger::Ledger;
@@ -238,6 +238,17 @@ impl Groups {
         let entries = count_with(others, group, &answer);
         self.entries = entries;
         answer
+    }
+
+    /// The next write of the log of the group at this place fails.
+    pub(crate) fn fail_log_at(&mut self, place: usize) -> Result<(), NoMemory>
+        requires within { place < length self.old.items }
+        requires kept { AreKept self.old.items }
+        ensures failing { (g : Group) → slice_get self.old.items place ≡ Some g → OnOk result (self.new.items ≡ slice_set self.old.items place (failing g)) }
+        ensures left { OnErr result (self.new.items ≡ self.old.items) }
+    {
+        failures_come_once();
+        self.items[place].fail_next()
     }
 
     /// A host stops or starts again, and each group hears of it. All are at hand then, and are counted anew.

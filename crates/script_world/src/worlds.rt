@@ -1,4 +1,4 @@
-ghost use Rattle.std.specs.Prelude.{◌≡◌, ℕ, ◌+◌, ◌*◌, ◌<◌, ◌≤◌, ◌^◌, [], ◌∷◌, ◌++◌, None, Some, false, true, length, map, nat_lt, slice_get, slice_set, is_some, IfOk, IfSome, MatchOption, OnOk, option_copied};
+ghost use Rattle.std.specs.Prelude.{◌≡◌, ℕ, ◌+◌, ◌*◌, ◌<◌, ◌≤◌, ◌^◌, [], ◌∷◌, ◌++◌, None, Some, false, true, length, map, nat_lt, slice_get, slice_set, is_some, IfOk, IfSome, MatchOption, OnErr, OnOk, option_copied};
 ghost use Rattle.std.specs.List.{AllByRecursion};
 ghost use Rattle.ft_base.specs.declared.limits.TheConstants.{HOST_LIMIT};
 ghost use Rattle.group_model.specs.Sending.{sent_by};
@@ -8,7 +8,7 @@ ghost use Rattle.script_groups.specs.Acting.{IsSoundGroup, MayCome};
 ghost use Rattle.script_groups.specs.Groups.{ScriptGroup as Group, entries_of, group_named, group_numbered};
 ghost use Rattle.script_world.specs.declared.hosts.HostState.{HostState as State};
 ghost use Rattle.script_world.specs.Sound.{IsKeptWorld, IsOnItsWay};
-ghost use Rattle.script_world.specs.World.{World, carried, client_named, empty, fresh_host, host_clock, is_named, is_there, is_up, message_numbered, passed, ticked, with_client, with_event, with_host, with_hosts, with_messages, with_one_client};
+ghost use Rattle.script_world.specs.World.{World, carried, client_named, empty, fresh_host, host_clock, is_named, is_there, is_up, message_numbered, passed, ticked, with_client, with_event, with_failing, with_host, with_hosts, with_messages, with_one_client};
 ghost use Rattle.script_world.specs.Worlds.{CanStart, EventAt, IsMade, IsPlace, begin, power_event};
 
 use crate::clients::Clients;
@@ -23,7 +23,7 @@ use host_ports::all_ports;
 use iogr_reference::{GroupRef, Ports};
 use property_manager::PropertyManager;
 use script_clients::{ScriptClient, Told};
-use script_groups::{ScriptGroup, groups_go_on};
+use script_groups::{ScriptGroup, failures_come_once, groups_go_on};
 use script_monitor::ScriptMonitor;
 use script_subscribers::Subscribers;
 use std::alloc::Global;
@@ -349,6 +349,17 @@ impl World {
         let alloc = *self.messages.allocator();
         groups_go_on();
         self.groups.act_at(alloc, place, event, steps)
+    }
+
+    /// The next write of the log of the group at this place fails.
+    pub fn fail_log_at(&mut self, place: usize) -> Result<(), NoMemory>
+        requires within { place < length self.old.groups }
+        requires kept { IsKeptWorld self.old }
+        ensures failing { (g : Group) → slice_get self.old.groups place ≡ Some g → OnOk result (self.new ≡ with_failing self.old place g) }
+        ensures left { OnErr result (self.new ≡ self.old) }
+    {
+        failures_come_once();
+        self.groups.fail_log_at(place)
     }
 
     /// A host stops, or starts again with a clock at 0; each group hears of it.

@@ -1,5 +1,5 @@
--- `checkpoint G`: the group's log begins anew with a state, which in a warm group goes to the other members; and
--- `update G`: what changed since goes to them.
+-- `checkpoint G`: the group's log begins anew with a state, which in a warm group goes to the other members;
+-- `update G`: what changed since goes to them; and `logfail G`: the log's next write fails.
 use Rattle.std.specs.Prelude.{ℕ, ◌+◌, List, [], ◌∷◌, length, Option, Some, None}
 use Rattle.ft_base.specs.declared.numbers.HostNo.{HostNo}
 use Rattle.fault_script.specs.declared.lines.LineFault.TheVariants.{Unknown}
@@ -10,7 +10,7 @@ use Rattle.group_model.specs.declared.events.GroupAnswer.{GroupAnswer}
 use Rattle.group_model.specs.declared.events.GroupAnswer.TheVariants as answers
 use Rattle.script_groups.specs.Groups.{ScriptGroup, Placed, acted, common_of, turn}
 use Rattle.script_groups.specs.Takers.{checkpoint_taker, update_taker}
-use Rattle.script_world.specs.World.{World, host_clock, with_event}
+use Rattle.script_world.specs.World.{World, host_clock, with_event, with_failing}
 use Rattle.world_turns.specs.Naming.{Naming, NeverMade, Deleted, There, gone, group_called}
 use Rattle.world_turns.specs.Sending.{all_sent, sent_lines}
 use Rattle.world_turns.specs.Turns.{Effect, Turn, Refused, costing, goes, says}
@@ -63,3 +63,13 @@ update_of w (There g) = goes (update_by w g (update_taker g.value))
 
 abbrev pub update_line : World → List ℕ → Turn
 update_line w name = update_of w (group_called w name)
+
+-- ---- `logfail G`
+
+abbrev pub logfail_of : World → Naming → Turn
+logfail_of w NeverMade = Refused Unknown 0
+logfail_of w (Deleted g) = goes (gone w)
+logfail_of w (There g) = goes (says (with_failing w g.place g.value) [])
+
+abbrev pub logfail_line : World → List ℕ → Turn
+logfail_line w name = logfail_of w (group_called w name)

@@ -2,4 +2,6 @@ use Rattle.ft_world.proofs.JournalLemmas.{servants_are_called}
 use Rattle.ft_world.proofs.laws.servants_are_called.Goals as goal
 
 pub returns : goal.returns
-returns c = servants_are_called c.calls_are_counted.ensures.go_on c.calls_are_counted.ensures.none c.calls_are_counted.ensures.counted
+returns c =
+    let counts = c.calls_are_counted.ensures in
+    servants_are_called (record { none = counts.none; go_on = counts.go_on; failing = c.failures_come_once.ensures.same }) counts.counted
