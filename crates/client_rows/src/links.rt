@@ -1,11 +1,11 @@
-//! The links of a client's caller.
+//! The network of a client: one caller with its links.
 ghost use Rattle.std.specs.Prelude.{IfOk};
 ghost use Rattle.std.specs.List.{All};
-ghost use Rattle.outside_links.specs.Wires.{IsFresh};
+ghost use Rattle.outside_links.specs.Wires.{IsFresh, IsNewCaller};
 
 use anyhow::Result;
 use octet_words::{no_memory, octets};
-use outside_links::{MemCaller, MemLink};
+use outside_links::{MemCaller, MemLink, MemNetwork};
 use std::alloc::Global;
 use std::collections::VecDeque;
 
@@ -25,8 +25,10 @@ fn link(alloc: Global, word: &str) -> Result<MemLink>
     Ok(link)
 }
 
-/// A caller with these links, in order.
-pub fn caller(alloc: Global, words: &[&str]) -> Result<MemCaller> {
+// A caller with these links, in order.
+fn caller(alloc: Global, words: &[&str]) -> Result<MemCaller>
+    ensures { IfOk result IsNewCaller }
+{
     let mut links = VecDeque::new(alloc);
     for word in words {
         let link = link(alloc, *word)?;
@@ -34,4 +36,12 @@ pub fn caller(alloc: Global, words: &[&str]) -> Result<MemCaller> {
     }
     let caller = MemCaller::new(alloc, links).map_err(no_memory)?;
     Ok(caller)
+}
+
+/// A network without doors, whose one caller has these links.
+pub fn network(alloc: Global, words: &[&str]) -> Result<MemNetwork> {
+    let mut callers = VecDeque::new(alloc);
+    callers.push_back(caller(alloc, words)?)?;
+    let network = MemNetwork::new(alloc, VecDeque::new(alloc), callers, &[]).map_err(no_memory)?;
+    Ok(network)
 }

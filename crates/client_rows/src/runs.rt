@@ -1,13 +1,13 @@
 //! A client's calls over links in memory.
 
-use crate::links::caller;
+use crate::links::network;
 use crate::references::reference;
 use crate::texts::{end_text, hearing_text};
 use anyhow::{Result, bail};
-use client_calls::{ToldCall, client_calls};
+use client_calls::{Told, ToldCall, client_calls};
 use client_replies::are_hosts;
 use octet_words::{name, name_text, no_memory};
-use outside_links::MemCaller;
+use outside_links::{MemCaller, Network};
 use row_words::put_hex;
 use std::alloc::Global;
 use std::sync::Wait;
@@ -25,6 +25,16 @@ fn put_call(alloc: Global, number: usize, call: &ToldCall, out: &mut String) -> 
     }
     let end = end_text(alloc, &call.end)?;
     Ok(write!(out, "done {end}\n")?)
+}
+
+/// What was heard in each call, and how it ended.
+pub fn put_calls(alloc: Global, told: &Told, out: &mut String) -> Result<()> {
+    let mut number = 0usize;
+    for call in &told.calls {
+        number = number.saturating_add(1);
+        put_call(alloc, number, call, out)?;
+    }
+    Ok(())
 }
 
 // Where each link led, and what it took.
@@ -55,16 +65,14 @@ pub fn calls<R: Wait + Clock>(rt: &R, alloc: Global, words: &str) -> Result<Stri
     if !are_hosts(reference.profiles.as_slice()) {
         bail!("no hosts");
     }
-    let mut caller = caller(alloc, links)?;
+    let mut network = network(alloc, links)?;
+    let mut caller = network.caller();
     let client = name(alloc, "ann")?;
     let count = count.parse::<u16>()?;
     let told = client_calls(rt, alloc, &client, reference, count, &mut caller).map_err(no_memory)?;
     let mut out = String::new(alloc);
-    let mut number = 0usize;
-    for call in &told.calls {
-        number = number.saturating_add(1);
-        put_call(alloc, number, call, &mut out)?;
-    }
+    put_calls(alloc, &told, &mut out)?;
     put_sent(alloc, &caller, &mut out)?;
+    network.take_caller(caller);
     Ok(out)
 }

@@ -1,0 +1,4 @@
+pub mod Ending
+pub mod Moving
+pub mod Sending
+pub mod Starting

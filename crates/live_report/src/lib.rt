@@ -1,0 +1,8 @@
+//! The lines of a live run's clients: one for each call, which says how it ended, and where that isn't the group's reply.
+#![tactic(auto)]
+
+mod lines;
+mod replies;
+
+pub use lines::push_client_line;
+pub use replies::differs;

@@ -1,0 +1,5 @@
+use Rattle.hist_lock.specs.Passes.{IsOf}
+use Rattle.shared_turns.proofs.single.first_reply.Given as goal
+
+abbrev pub invariant-loop : goal.invariant-loop
+invariant-loop g l = IsOf l.initial.group.lock l.pass
