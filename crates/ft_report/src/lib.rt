@@ -22,5 +22,6 @@ mod showing;
 mod transfers;
 
 pub use outcomes::{ReportOutcome, Worth, worth_of};
+pub use parts::{push_end, push_outcome};
 pub use rendering::write_line;
 pub use reports::{CallEnd, ReportLine, ReportLines, Role, SettingFault, Standing, SubscribeFault};

@@ -41,7 +41,8 @@ use Rattle.world_turns.specs.Turns.{Effect, says}
 use Rattle.world_turns.specs.Naming.{Naming, NeverMade, Deleted, There, group_with_number, late_line}
 use Rattle.ft_world.specs.Clients.{adopted_lines, attempted, attempts, does}
 use Rattle.ft_world.specs.Delivering.{answered, arrival_of, arrives, asker_of, brought_to, came, deliver_line, delivered, heard_by, heard_of, held, index_of, replied, requested, turned_away}
-use Rattle.ft_world.specs.Printed.{shown, shown_outcome}
+use Rattle.ft_world.specs.Printed.{shown}
+use Rattle.shown_ends.specs.Ends.{shown_outcome}
 use Rattle.ft_world.specs.Replying.{DeliveriesTellOnce, EntriesAreReplied, IsReplyOf, IsSaidOf, OnlyLeadersAppend, TellsDecided, TellsOnce, TurnTellsOnce}
 use Rattle.ft_world.specs.Requests.{Asking, ask, gives_asked, request_at, said_by}
 use Rattle.ft_world.specs.declared.asking.Said.{Said}

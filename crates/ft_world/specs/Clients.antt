@@ -7,15 +7,10 @@ use Rattle.ft_base.specs.declared.numbers.Version.{Version}
 use Rattle.ft_base.specs.declared.requests.Key.{Key}
 use Rattle.ft_base.specs.declared.requests.Par.{Par}
 use Rattle.ft_base.specs.declared.requests.Request.{Request}
-use Rattle.client_retry.specs.declared.answers.End.{End}
-use Rattle.client_retry.specs.declared.answers.End.TheVariants as ends
 use Rattle.fault_script.specs.Arguments.{call_words_of}
 use Rattle.fault_script.specs.declared.arguments.CallWords.{CallWords}
 use Rattle.fault_script.specs.declared.lines.LineFault.{LineFault}
 use Rattle.fault_script.specs.declared.lines.LineFault.TheVariants.{Unknown}
-use Rattle.ft_report.specs.declared.reports.CallEnd.{CallEnd}
-use Rattle.ft_report.specs.declared.reports.CallEnd.TheVariants as shown_ends
-use Rattle.ft_report.specs.declared.outcomes.ReportOutcome.TheVariants.{System}
 use Rattle.ft_report.specs.declared.reports.ReportLine.{ReportLine}
 use Rattle.ft_report.specs.declared.reports.ReportLine.TheVariants as reports
 use Rattle.host_ports.specs.Ports.{host_at}
@@ -32,7 +27,7 @@ use Rattle.script_groups.specs.Groups.{ScriptGroup, Placed, group_numbered, sign
 use Rattle.script_groups.specs.References.{newest_reference}
 use Rattle.script_world.specs.declared.limits.TheConstants.{DEFAULT_LIFE}
 use Rattle.script_world.specs.declared.messages.Message.TheVariants as messages
-use Rattle.ft_world.specs.Printed.{shown_outcome}
+use Rattle.shown_ends.specs.Ends.{shown_end}
 use Rattle.script_world.specs.World.{World, client_named, counted, with_client, with_messages}
 use Rattle.world_turns.specs.Naming.{Naming, NeverMade, Deleted, There, gone, group_called}
 use Rattle.world_turns.specs.Turns.{Effect, Turn, Refused, goes, says, saying}
@@ -52,14 +47,6 @@ attempts w client name a = attempted w client name a (host_at a.port)
 abbrev pub adopted_lines : List ℕ → Version → Option (Placed ScriptGroup) → List ReportLine
 adopted_lines name version None = []
 adopted_lines name version (Some g) = reports.Adopted name g.value.name version ∷ []
-
--- how an invocation ended; an outcome of an operation that gives this
-abbrev pub shown_end : Option Par → End → CallEnd
-shown_end gives (ends.Outcome outcome) = shown_ends.Shown (shown_outcome gives outcome)
-shown_end gives (ends.System fault) = shown_ends.Shown (System fault)
-shown_end gives (ends.NoResponse expiration now) = shown_ends.NoResponse expiration now
-shown_end gives (ends.Transient faults profiles) = shown_ends.Transient faults profiles
-shown_end gives ends.IdsSpent = shown_ends.IdsSpent
 
 -- by what it is told; these lines where it does nothing
 abbrev pub does : World → ℕ → List ℕ → Option Par → List ReportLine → Told → Effect

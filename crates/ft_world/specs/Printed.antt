@@ -1,18 +1,11 @@
 -- Answers as they are printed.
 use Rattle.std.specs.Prelude.{ℕ, List, Option}
 use Rattle.ft_base.specs.declared.requests.Par.{Par}
-use Rattle.ft_base.specs.declared.requests.Outcome.{Outcome}
-use Rattle.ft_base.specs.declared.requests.Outcome.TheVariants as outcomes
 use Rattle.sys_faults.specs.declared.answers.Answer.{Answer}
 use Rattle.sys_faults.specs.declared.answers.Answer.TheVariants as answers
-use Rattle.ft_report.specs.Worth.{worth_in}
 use Rattle.ft_report.specs.declared.outcomes.ReportOutcome.{ReportOutcome}
 use Rattle.ft_report.specs.declared.outcomes.ReportOutcome.TheVariants as showns
-
--- an outcome, of an operation that gives this
-abbrev pub shown_outcome : Option Par → Outcome → ReportOutcome
-shown_outcome gives (outcomes.Value value) = showns.Value (worth_in gives value)
-shown_outcome gives (outcomes.User name) = showns.User name
+use Rattle.shown_ends.specs.Ends.{shown_outcome}
 
 -- a group's answer, with the group's name where it turns the client to a reference
 abbrev pub shown : List ℕ → Option Par → Answer → ReportOutcome

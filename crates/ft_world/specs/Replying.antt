@@ -21,7 +21,7 @@ use Rattle.script_world.specs.World.{World}
 use Rattle.sys_faults.specs.declared.answers.Answer.{Answer}
 use Rattle.world_turns.specs.Turns.{Turn, Goes, Refused}
 use Rattle.ft_world.specs.Delivering.{deliver_line}
-use Rattle.ft_world.specs.Printed.{shown_outcome}
+use Rattle.shown_ends.specs.Ends.{shown_outcome}
 use Rattle.ft_world.specs.Requests.{ask, request_at}
 use Rattle.ft_world.specs.declared.asking.Said.{Said}
 use Rattle.ft_world.specs.declared.asking.Said.TheVariants as saids

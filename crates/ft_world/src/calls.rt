@@ -11,7 +11,6 @@ ghost use Rattle.world_turns.specs.Answers.{Acts, Does};
 ghost use Rattle.world_turns.specs.Naming.{Deleted, There};
 ghost use Rattle.ft_world.specs.Clients.{call_to, gone_for, adopted_lines, attempts, call_from, call_line, does, expiration_of, key_of, retention_of, started};
 
-use crate::printing::shown_end;
 use fault_script::{CallWords, LineFault, Words, call_words};
 use ft_base::{GroupId, Key, Name, NoMemory, Par, Request, Retention, Tick, Version};
 use ft_report::{ReportLine, ReportLines};
@@ -20,6 +19,7 @@ use iogr_reference::GroupRef;
 use message_sizes::request_size;
 use script_clients::{Attempt, ScriptClient, Told};
 use script_world::{Apart, Begun, DEFAULT_LIFE, Message, World};
+use shown_ends::shown_end;
 use world_turns::{Named, gone, group_called, one_line};
 
 fn retention_of(client: &ScriptClient, retention: Option<Retention>) -> Retention
@@ -126,7 +126,7 @@ pub(crate) fn does(
             Ok(report)
         }
         Told::Ended { number, end } => {
-            let end = shown_end(alloc, gives, end)?;
+            let end = shown_end(alloc, gives, &end)?;
             let client = name.copy(alloc)?;
             one_line(
                 alloc,

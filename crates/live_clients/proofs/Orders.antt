@@ -3,21 +3,23 @@ use Rattle.std.proofs.Common.{◌≡◌, ◌∙◌, ◌+◌, ℕ, List, [], ◌�
 use Rattle.std.proofs.lemmas.List.{map-append}
 use Rattle.ft_outside.specs.Outside.{added}
 use Rattle.outside_links.specs.Lending.{Target}
+use Rattle.iogr_reference.specs.declared.references.GroupRef.{GroupRef}
 use Rattle.client_calls.specs.declared.answers.Told.{Told}
 use Rattle.live_clients.specs.declared.jobs.ClientJob.{ClientJob}
 use Rattle.live_clients.specs.declared.settings.ClientSetting.{ClientSetting}
-use Rattle.live_clients.specs.Clients.{AreStarted, AreTold, IsToldBy, Task, client_task, task_of, tasks_from, tasks_of}
+use Rattle.live_clients.specs.Clients.{AreStarted, AreTold, IsToldBy, Task, client_name, client_task, reference_of, task, task_of, tasks_from, tasks_of}
 
 module _ {D : Type 0} where
-  tasks_more : (setting : ClientSetting) (number : ℕ) (callers : List D) (caller : D)
-      → tasks_from setting number (callers ++ caller ∷ []) ≡ tasks_from setting number callers ++ client_task setting (number + length callers) caller ∷ []
-  tasks_more setting number [] caller =
+  tasks_more : (reference : GroupRef) (calls number : ℕ) (callers : List D) (caller : D)
+      → tasks_from reference calls number (callers ++ caller ∷ []) ≡ tasks_from reference calls number callers ++ task (client_name (number + length callers)) reference calls caller ∷ []
+  tasks_more reference calls number [] caller =
       let same : number ≡ number + 0 = omega arith in
-      ap (λ (n : ℕ). client_task setting n caller ∷ []) same
-  tasks_more setting number (first ∷ callers) caller =
+      ap (λ (n : ℕ). task (client_name n) reference calls caller ∷ []) same
+  tasks_more reference calls number (first ∷ callers) caller =
       let same : number + 1 + length callers ≡ number + length (first ∷ callers) = omega arith in
-      ap (λ (ts : List (Task D)). client_task setting number first ∷ ts)
-      (tasks_more setting (number + 1) callers caller ∙ ap (λ (n : ℕ). tasks_from setting (number + 1) callers ++ client_task setting n caller ∷ []) same)
+      ap (λ (ts : List (Task D)). task (client_name number) reference calls first ∷ ts)
+      (tasks_more reference calls (number + 1) callers caller
+      ∙ ap (λ (n : ℕ). tasks_from reference calls (number + 1) callers ++ task (client_name n) reference calls caller ∷ []) same)
 
   -- a client was started behind those that run
   pub one_started : {R L : Type 0} (setting : ClientSetting) (running more : List (ClientJob R L D)) (job : ClientJob R L D) (number : ℕ) (callers : List D) (caller : D)
@@ -27,7 +29,7 @@ module _ {D : Type 0} where
       let place : number ≡ 0 + length callers = omega (arith, at) in
       ap (map task_of) is ∙ map-append task_of running (job ∷ [])
       ∙ ap₂ (λ (ts : List (Task D)) (t : Task D). ts ++ t ∷ []) so_far (same ∙ ap (λ (n : ℕ). client_task setting n caller) place)
-      ∙ sym (tasks_more setting 0 callers caller)
+      ∙ sym (tasks_more (reference_of setting) setting.calls 0 callers caller)
 
   -- the callers so far, one at hand, and those to come
   pub at_hand : (done rest now all : List D) (caller : D) → rest ≡ caller ∷ now → done ++ rest ≡ all → (done ++ caller ∷ []) ++ now ≡ all

@@ -1,6 +1,7 @@
 -- The clients of a live run: what each is given, which of them were started, and what all were told.
-use Rattle.std.specs.Prelude.{◌≡◌, ℕ, ◌+◌, ◌<◌, Bool, if◌then◌else◌, All, List, [], ◌∷◌, ◌++◌, length, codes, decimal, Option, Result, MatchResult}
+use Rattle.std.specs.Prelude.{◌≡◌, ℕ, pos, ◌+◌, ◌<◌, Bool, if◌then◌else◌, All, List, [], ◌∷◌, ◌++◌, length, codes, decimal, Option, Result, MatchResult}
 use Rattle.ft_base.specs.declared.memory.NoMemory.{NoMemory}
+use Rattle.ft_base.specs.declared.requests.Key.{Key}
 use Rattle.ft_outside.specs.Outside.{added, next_count}
 use Rattle.ft_outside.specs.Schedules.{Schedule}
 use Rattle.outside_links.specs.Lending.{Target}
@@ -8,6 +9,7 @@ use Rattle.iogr_reference.specs.declared.references.GroupRef.{GroupRef}
 use Rattle.iogr_reference.specs.Views.{group_of_view}
 use Rattle.client_talk.specs.Talking.{Dialing, dialing}
 use Rattle.client_calls.specs.declared.answers.Told.{Told}
+use Rattle.client_calls.specs.declared.requests.TheConstants.{NEVER}
 use Rattle.client_calls.specs.Calls.{IsTold, faults_of}
 use Rattle.live_clients.specs.declared.jobs.ClientJob.{ClientJob}
 use Rattle.live_clients.specs.declared.settings.ClientSetting.{ClientSetting}
@@ -15,6 +17,10 @@ use Rattle.live_clients.specs.declared.settings.ClientSetting.{ClientSetting}
 -- a client's name: `c`, and its number directly behind it
 abbrev pub client_name : ℕ → List ℕ
 client_name number = codes "c" ++ decimal number
+
+-- the key of a client's call, which is its deposit's
+abbrev pub live_key : ℕ → ℕ → Key
+live_key client call = record { client = client_name client; retention = record { 0 = pos call }; expiration = NEVER }
 
 -- the reference of the group's first view, and that each of its members has a port
 abbrev pub reference_of : ClientSetting → GroupRef
@@ -41,14 +47,14 @@ module _ {D : Type 0} where
   abbrev pub client_task : ClientSetting → ℕ → D → Task D
   client_task setting number caller = task (client_name number) (reference_of setting) setting.calls caller
 
-  -- the clients of these callers, of whom the first has this number
-  abbrev pub tasks_from : ClientSetting → ℕ → List D → List (Task D)
-  tasks_from setting number [] = []
-  tasks_from setting number (caller ∷ callers) = client_task setting number caller ∷ tasks_from setting (number + 1) callers
+  -- the clients of these callers, of whom the first has this number; each makes so many calls, over this reference first
+  abbrev pub tasks_from : GroupRef → ℕ → ℕ → List D → List (Task D)
+  tasks_from reference calls number [] = []
+  tasks_from reference calls number (caller ∷ callers) = task (client_name number) reference calls caller ∷ tasks_from reference calls (number + 1) callers
 
   -- all clients of these callers, in their order
   abbrev pub tasks_of : ClientSetting → List D → List (Task D)
-  tasks_of setting callers = tasks_from setting 0 callers
+  tasks_of setting callers = tasks_from (reference_of setting) setting.calls 0 callers
 
   -- Clients were started in the order of their callers, as far as it went.
   pub record AreStarted (setting : ClientSetting) (callers : List D) (tasks : List (Task D)) : Type 0 where

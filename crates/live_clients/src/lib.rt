@@ -3,11 +3,13 @@
 #![tactic(auto)]
 
 mod jobs;
+mod keys;
 mod laws;
 mod runs;
 mod settings;
 
 pub use jobs::{ClientEnd, ClientJob};
+pub use keys::live_key;
 pub use laws::faults_are_counted;
 pub use runs::{RunningClients, join_clients, start_clients};
 pub use settings::ClientSetting;

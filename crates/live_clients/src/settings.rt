@@ -9,6 +9,7 @@ use report_words::push_numbered;
 use std::alloc::Global;
 
 /// What all clients of a run have in common: the group that they call, by its first view, and how many calls each makes.
+#[derive(Drop)]
 pub struct ClientSetting<'a> {
     pub group: GroupId,
     pub type_id: &'a Name,

@@ -4,7 +4,7 @@ use Rattle.std.specs.Prelude.{◌==◌}
 use Rattle.std.specs.List.{AllByRecursion}
 use Rattle.std.proofs.lemmas.List.Elements.{filter-append}
 use Rattle.std.proofs.lemmas.Bool.Decides.{nat_tests}
-use Rattle.hist_lock.specs.Histories.{Among, Continues, turn_by, turns_by}
+use Rattle.hist_lock.specs.Histories.{Among, turn_by, turns_by}
 use Rattle.hist_lock.specs.Passes.{IsJoin, IsTurn, numbers, own_turns}
 use Rattle.shared_group.specs.Turns.{GroupPass}
 use Rattle.shared_group.specs.declared.calls.Call.{Call}
@@ -58,14 +58,13 @@ longer post seen history rest has same none =
       calls = subst (AreCallsAt post.host) (sym under) has.calls;
     }
 
-pub in_the_whole : (post : Post) (pass : GroupPass) (history : List GroupTurn) → Continues (numbers pass) pass.seen history → HasEnded post pass → HasTurnsOf post history
-in_the_whole post pass history others ended =
-    longer post pass.seen history others.0 ended.has others.1 (others.2 post.pass.number (inr ended.joined))
+pub in_the_whole : (post : Post) (pass : GroupPass) (history rest : List GroupTurn) → history ≡ pass.seen ++ rest → turns_by post.pass.number rest ≡ [] → HasEnded post pass → HasTurnsOf post history
+in_the_whole post pass history rest same none ended = longer post pass.seen history rest ended.has same none
 
 pub after_join : (post : Post) (pass gone later : GroupPass) → IsJoin pass gone later → HasEnded post pass → HasEnded post later
 after_join post pass gone later join ended = record {
   joined = subst (Among post.pass.number) (sym (joined_by join)) (kept post.pass.number pass.joined (numbers gone) ended.joined);
-  has = in_the_whole post pass later.seen join.seen ended;
+  has = in_the_whole post pass later.seen join.seen.0 join.seen.1 (join.seen.2 post.pass.number (inr ended.joined)) ended;
 }
 
 pub after_turn : (post : Post) (pass later : GroupPass) (call : Call) (answer : CallAnswer) → post.pass.number ≢ pass.number → IsTurn pass call answer later → HasEnded post pass → HasEnded post later

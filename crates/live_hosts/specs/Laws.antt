@@ -1,7 +1,7 @@
 -- What stays of a host that has ended.
-use Rattle.std.specs.Prelude.{◌≢◌, List}
-use Rattle.hist_lock.specs.Histories.{Continues}
-use Rattle.hist_lock.specs.Passes.{IsJoin, IsTurn, numbers}
+use Rattle.std.specs.Prelude.{◌≡◌, ◌≢◌, ◌++◌, List, []}
+use Rattle.hist_lock.specs.Histories.{turns_by}
+use Rattle.hist_lock.specs.Passes.{IsJoin, IsTurn}
 use Rattle.shared_group.specs.Turns.{GroupPass}
 use Rattle.shared_group.specs.declared.calls.Call.{Call}
 use Rattle.shared_group.specs.declared.calls.CallAnswer.{CallAnswer}
@@ -17,7 +17,7 @@ StaysEndedAfterTurns = (post : Post) (pass later : GroupPass) (call : Call) (ans
 abbrev pub StaysEndedAfterJoins : Type 0
 StaysEndedAfterJoins = (post : Post) (pass gone later : GroupPass) → IsJoin pass gone later → HasEnded post pass → HasEnded post later
 
--- in all that comes after what the pass has seen
+-- in a longer history, which has no turn more under the number of its pass
 abbrev pub StaysEndedInTheWhole : Type 0
-StaysEndedInTheWhole = (post : Post) (pass : GroupPass) (history : List GroupTurn)
-    → Continues (numbers pass) pass.seen history → HasEnded post pass → HasTurnsOf post history
+StaysEndedInTheWhole = (post : Post) (pass : GroupPass) (history rest : List GroupTurn)
+    → history ≡ pass.seen ++ rest → turns_by post.pass.number rest ≡ [] → HasEnded post pass → HasTurnsOf post history

@@ -6,14 +6,15 @@ use Rattle.ft_base.specs.Machine.{Machine}
 use Rattle.ft_base.specs.Members.{is_member}
 use Rattle.ft_base.specs.declared.limits.TheConstants.{HOST_LIMIT}
 use Rattle.ft_base.specs.declared.views.View.{View}
+use Rattle.group_looks.specs.Looks.{AreFigures}
+use Rattle.group_looks.specs.declared.figures.Figure.{Figure}
+use Rattle.group_looks.specs.declared.figures.Figures.{Figures}
 use Rattle.group_model.specs.Agreeing.{IsSound}
 use Rattle.group_model.specs.Plain.{Group}
 use Rattle.group_model.specs.Views.{newest_view, no_view}
 use Rattle.shared_group.specs.declared.calls.Call.TheVariants as calls
 use Rattle.shared_group.specs.declared.calls.CallAnswer.TheVariants as told
-use Rattle.shared_group.specs.declared.figures.Figure.{Figure}
-use Rattle.shared_group.specs.declared.figures.Figures.{Figures}
-use Rattle.shared_group.specs.Looks.{AreFigures, ShowsFigures}
+use Rattle.shared_group.specs.Looks.{ShowsFigures}
 use Rattle.shared_group.specs.Shared.{Shared}
 use Rattle.shared_group.specs.Turns.{GroupLock, GroupPass, IsTaken}
 use Rattle.live_monitor.specs.Monitored.{GroupTurn, HasDown, ShowsDown, Showed, WasDown}

@@ -7,6 +7,7 @@ use Rattle.std.proofs.lemmas.Bool.Decides.{nat_tests}
 use Rattle.ft_base.specs.Machine.{Machine}
 use Rattle.ft_base.specs.declared.numbers.HostNo.{HostNo}
 use Rattle.ft_base.specs.declared.numbers.Tick.{Tick}
+use Rattle.group_looks.specs.declared.figures.Figures.{Figures}
 use Rattle.group_model.specs.declared.events.Event.TheVariants as events
 use Rattle.group_model.specs.declared.events.GroupAnswer.{GroupAnswer}
 use Rattle.group_model.specs.declared.events.Inner.{Inner}
@@ -22,13 +23,12 @@ use Rattle.shared_group.specs.declared.calls.Call.{Call}
 use Rattle.shared_group.specs.declared.calls.Call.TheVariants as calls
 use Rattle.shared_group.specs.declared.calls.CallAnswer.{CallAnswer}
 use Rattle.shared_group.specs.declared.calls.CallAnswer.TheVariants as told
-use Rattle.shared_group.specs.declared.figures.Figures.{Figures}
 use Rattle.shared_group.specs.Books.{MayCall}
 use Rattle.shared_group.specs.Laws.{CallsStayPossible}
 use Rattle.shared_group.specs.declared.calls.QueuedAnswer.{QueuedAnswer}
 use Rattle.shared_group.specs.Turns.{GroupLock, GroupPass, IsTaken, carry_told, checkpoint_told}
 use Rattle.live_monitor.specs.declared.states.Kill.{Kill}
-use Rattle.live_monitor.specs.Monitored.{AreMonitors, Errand, Finds, GoesOn, GroupTurn, HasKilled, IsCrash, IsMonitored, MayAct, MayTake, NoneCrashes, NoneFinds, Showed, SomeTurn, WasDown, kill_due, kill_due_of}
+use Rattle.live_monitor.specs.Monitored.{AreMonitors, Errand, Finds, GoesOn, GroupTurn, HasKilled, HasLooked, IsCrash, IsMonitored, MayAct, MayTake, NoneCrashes, NoneFinds, Showed, SomeTurn, WasDown, kill_due, kill_due_of}
 
 -- ---- lists of turns
 
@@ -84,10 +84,11 @@ monitored_more errand turns t is may quiet calm = record {
 -- ---- passes
 
 pub goes_nowhere : (p : GroupPass) → GoesOn p p
-goes_nowhere p = record { mine = []; gained = sym (append-nil (own_turns p)); keeps = λ errand is. is }
+goes_nowhere p = record { number = refl; mine = []; gained = sym (append-nil (own_turns p)); keeps = λ errand is. is }
 
 pub goes_on_both : (p q r : GroupPass) → GoesOn p q → GoesOn q r → GoesOn p r
 goes_on_both p q r a b = record {
+  number = b.number ∙ a.number;
   mine = a.mine ++ b.mine;
   gained = b.gained ∙ ap (λ (l : List GroupTurn). l ++ b.mine) a.gained ∙ append_assoc (own_turns p) a.mine b.mine;
   keeps = λ errand is. b.keeps errand (a.keeps errand is);
@@ -103,6 +104,7 @@ module _ (machines : ℕ → Machine) (lock : GroupLock) (p q : GroupPass) where
   one_turn call answer taken may quiet calm =
       let t : GroupTurn = turn_by p.number call answer in
       record {
+        number = ap (λ (z : GroupPass). z.number) taken.turn.ended;
         mine = t ∷ [];
         gained = taken.gained;
         keeps = λ errand is. subst (IsMonitored errand) (sym taken.gained) (monitored_more errand (own_turns p) t is (may errand.kill) (λ not k same. quiet k.after) calm);
@@ -199,7 +201,58 @@ pub reports : (machines : ℕ → Machine) (lock : GroupLock) (p q : GroupPass) 
 reports machines lock p q host answer down taken =
     one_turn machines lock p q (calls.Act (events.Manage (changes.Report host))) (told.Event answer) taken (λ kill. down) (λ n no. no) (λ no. no)
 
--- ---- a look
+-- ---- a look behind other turns
+
+module _ (errand : Errand) (so_far : List GroupTurn) (figures : Figures) (number : ℕ) (is : IsMonitored errand so_far) where
+  abbrev the_look : GroupTurn
+  the_look = turn_by number calls.Figures (told.Figures (Ok figures))
+
+  -- it finds too few entries
+  pub finds_few : kill_due errand figures.entries ≡ None → IsMonitored errand (so_far ++ the_look ∷ [])
+  finds_few none = monitored_more errand so_far the_look is tt (λ waits k same enough. not_due errand.kill errand.killed figures.entries none waits k same enough) (λ no. no)
+
+  -- it finds enough, and the host is crashed
+  pub finds_enough : (host : HostNo) (by : ℕ) (answer : CallAnswer) → kill_due errand figures.entries ≡ Some host
+      → IsMonitored (record errand { killed = true }) ((so_far ++ the_look ∷ []) ++ turn_by by (calls.Act (events.Crash host)) answer ∷ [])
+  finds_enough host by answer due = record {
+    each = monitors_more errand.kill [] looked the_crash (monitors_more errand.kill [] so_far the_look is.each tt) may;
+    waits = λ no. absurd (true≢false no);
+    killed = λ yes. has;
+  }
+    where
+      looked : List GroupTurn
+      looked = so_far ++ the_look ∷ []
+
+      the_crash : GroupTurn
+      the_crash = turn_by by (calls.Act (events.Crash host)) answer
+
+      now : IsDue errand.kill errand.killed figures.entries host
+      now = due_now errand.kill errand.killed figures.entries host due
+
+      may : MayTake errand.kill looked (calls.Act (events.Crash host))
+      may = subst (λ (k : Option Kill). MayTake k looked (calls.Act (events.Crash host))) (sym now.is)
+          (now.named, some_last (λ turn. Finds now.k.after turn.answer) so_far the_look now.enough, none_crashes_more so_far the_look (is.waits now.waits).1 (λ no. no))
+
+      has : HasKilled errand.kill (looked ++ the_crash ∷ [])
+      has = subst (λ (k : Option Kill). HasKilled k (looked ++ the_crash ∷ [])) (sym now.is)
+          (some_last (λ turn. turn.event ≡ calls.Act (events.Crash now.k.host)) looked the_crash (ap (λ (h : HostNo). calls.Act (events.Crash h)) now.named))
+
+-- ---- a look of a pass
+
+pub has_looked : (machines : ℕ → Machine) (lock : GroupLock) (p q : GroupPass) (answer : CallAnswer) → IsTaken machines lock p calls.Figures answer q → HasLooked (own_turns p) (own_turns q)
+has_looked machines lock p q answer taken = record { turn = turn_by p.number calls.Figures answer; more = []; gained = taken.gained; look = refl }
+
+-- it has looked, whatever came then
+pub looked_before : (old new later more : List GroupTurn) → HasLooked old new → later ≡ new ++ more → HasLooked old later
+looked_before old new later more has gained = record {
+  turn = has.turn;
+  more = has.more ++ more;
+  gained = gained ∙ ap (λ (l : List GroupTurn). l ++ more) has.gained ∙ append_assoc old (has.turn ∷ has.more) more;
+  look = has.look;
+}
+
+pub goes_on_looked : (old : List GroupTurn) (p q : GroupPass) → HasLooked old (own_turns p) → GoesOn p q → HasLooked old (own_turns q)
+goes_on_looked old p q has on = looked_before old (own_turns p) (own_turns q) on.mine has on.gained
 
 -- memory was wanted for its figures
 pub looks_in_vain : (machines : ℕ → Machine) (lock : GroupLock) (p q : GroupPass) (fault : NoMemory) → IsTaken machines lock p calls.Figures (told.Figures (Err fault)) q → GoesOn p q
@@ -207,53 +260,26 @@ looks_in_vain machines lock p q fault taken = one_turn machines lock p q calls.F
 
 module _ (machines : ℕ → Machine) (lock : GroupLock) (errand : Errand) (p q : GroupPass) (figures : Figures) (is : IsMonitored errand (own_turns p))
     (taken : IsTaken machines lock p calls.Figures (told.Figures (Ok figures)) q) where
-  abbrev the_look : GroupTurn
-  the_look = turn_by p.number calls.Figures (told.Figures (Ok figures))
+  abbrev shows : GroupTurn → Type 0
+  shows turn = turn.answer ≡ told.Figures (Ok figures)
 
   pub showed : Showed figures (own_turns q)
-  showed = subst (Showed figures) (sym taken.gained) (some_last (λ turn. turn.answer ≡ told.Figures (Ok figures)) (own_turns p) the_look refl)
+  showed = subst (Showed figures) (sym taken.gained) (some_last shows (own_turns p) (turn_by p.number calls.Figures (told.Figures (Ok figures))) refl)
 
-  -- it finds too few entries
   pub looks_on : kill_due errand figures.entries ≡ None → IsMonitored errand (own_turns q)
-  looks_on none = subst (IsMonitored errand) (sym taken.gained)
-      (monitored_more errand (own_turns p) the_look is tt (λ waits k same enough. not_due errand.kill errand.killed figures.entries none waits k same enough) (λ no. no))
+  looks_on none = subst (IsMonitored errand) (sym taken.gained) (finds_few errand (own_turns p) figures p.number is none)
 
-  -- it finds enough, and the host is crashed
-  module _ (r : GroupPass) (host : HostNo) (answer : GroupAnswer) (due : kill_due errand figures.entries ≡ Some host)
-      (crashed : IsTaken machines lock q (calls.Act (events.Crash host)) (told.Event answer) r) where
-    abbrev the_crash : GroupTurn
-    the_crash = turn_by q.number (calls.Act (events.Crash host)) (told.Event answer)
+  -- and the host is crashed
+  module _ (r : GroupPass) (host : HostNo) (answer : GroupAnswer) (crashed : IsTaken machines lock q (calls.Act (events.Crash host)) (told.Event answer) r) where
+    abbrev crash : List GroupTurn
+    crash = turn_by q.number (calls.Act (events.Crash host)) (told.Event answer) ∷ []
 
-    gained : own_turns r ≡ (own_turns p ++ the_look ∷ []) ++ the_crash ∷ []
-    gained = crashed.gained ∙ ap (λ (l : List GroupTurn). l ++ the_crash ∷ []) taken.gained
-
-    pub kills : IsMonitored (record errand { killed = true }) (own_turns r)
-    kills = subst (IsMonitored (record errand { killed = true })) (sym gained) killed_now
-      where
-        so_far : List GroupTurn
-        so_far = own_turns p ++ the_look ∷ []
-
-        now : IsDue errand.kill errand.killed figures.entries host
-        now = due_now errand.kill errand.killed figures.entries host due
-
-        looked : AreMonitors errand.kill [] so_far
-        looked = monitors_more errand.kill [] (own_turns p) the_look is.each tt
-
-        may : MayTake errand.kill so_far (calls.Act (events.Crash host))
-        may = subst (λ (k : Option Kill). MayTake k so_far (calls.Act (events.Crash host))) (sym now.is)
-            (now.named, some_last (λ turn. Finds now.k.after turn.answer) (own_turns p) the_look now.enough, none_crashes_more (own_turns p) the_look (is.waits now.waits).1 (λ no. no))
-
-        has : HasKilled errand.kill (so_far ++ the_crash ∷ [])
-        has = subst (λ (k : Option Kill). HasKilled k (so_far ++ the_crash ∷ [])) (sym now.is)
-            (some_last (λ turn. turn.event ≡ calls.Act (events.Crash now.k.host)) so_far the_crash (ap (λ (h : HostNo). calls.Act (events.Crash h)) now.named))
-
-        killed_now : IsMonitored (record errand { killed = true }) (so_far ++ the_crash ∷ [])
-        killed_now = record {
-          each = monitors_more errand.kill [] so_far the_crash looked may;
-          waits = λ no. absurd (true≢false no);
-          killed = λ yes. has;
-        }
+    pub kills : kill_due errand figures.entries ≡ Some host → IsMonitored (record errand { killed = true }) (own_turns r)
+    kills due = subst (IsMonitored (record errand { killed = true })) (sym (crashed.gained ∙ ap (λ (l : List GroupTurn). l ++ crash) taken.gained))
+        (finds_enough errand (own_turns p) figures p.number is host q.number (told.Event answer) due)
 
     pub showed_before_the_crash : Showed figures (own_turns r)
-    showed_before_the_crash = subst (Showed figures) (sym gained) (some_both (λ turn. turn.answer ≡ told.Figures (Ok figures)) (own_turns p ++ the_look ∷ []) (the_crash ∷ [])
-        (some_last (λ turn. turn.answer ≡ told.Figures (Ok figures)) (own_turns p) the_look refl))
+    showed_before_the_crash = subst (Showed figures) (sym crashed.gained) (some_both shows (own_turns q) crash showed)
+
+    pub looked_before_the_crash : HasLooked (own_turns p) (own_turns r)
+    looked_before_the_crash = looked_before (own_turns p) (own_turns q) (own_turns r) crash (has_looked machines lock p q (told.Figures (Ok figures)) taken) crashed.gained

@@ -1,21 +1,25 @@
 -- The turns of a running group's monitor. (Chapter 23, Fault Management: a pull monitor asks members whether they are alive,
 -- and reports those that haven't answered.)
-use Rattle.std.specs.Prelude.{◌≡◌, ℕ, ◌+◌, ◌*◌, ◌<◌, ◌≤◌, ◌⊎◌, ◌&&◌, not, nat_le, Bool, true, false, if◌then◌else◌, List, [], ◌∷◌, ◌++◌, Option, Some, None, Ok}
+use Rattle.std.specs.Prelude.{◌≡◌, ℕ, ◌+◌, ◌*◌, ◌<◌, ◌≤◌, ◌⊎◌, ◌&&◌, not, nat_le, Bool, true, false, if◌then◌else◌, List, [], ◌∷◌, ◌++◌, Option, Some, None, Ok, ◌↔◌}
 use Rattle.std.specs.List.{AllByRecursion}
+use Rattle.ft_base.specs.Machine.{Machine}
 use Rattle.ft_base.specs.declared.limits.TheConstants.{HOST_LIMIT}
 use Rattle.ft_base.specs.declared.numbers.HostNo.{HostNo}
+use Rattle.group_looks.specs.declared.figures.Figure.{Figure}
+use Rattle.group_looks.specs.declared.figures.Figures.{Figures}
 use Rattle.group_model.specs.declared.changes.Change.{Change}
 use Rattle.group_model.specs.declared.changes.Change.TheVariants as changes
 use Rattle.group_model.specs.declared.events.Event.{Event}
 use Rattle.group_model.specs.declared.events.Event.TheVariants as events
 use Rattle.hist_lock.specs.declared.standings.Turn.{Turn}
+use Rattle.hist_lock.specs.Histories.{calls as turns, turns_by}
 use Rattle.hist_lock.specs.Passes.{own_turns}
+use Rattle.message_log.specs.Picture.{length_of}
+use Rattle.shared_group.specs.Books.{BookPicture, IsBook}
 use Rattle.shared_group.specs.declared.calls.Call.{Call}
 use Rattle.shared_group.specs.declared.calls.Call.TheVariants as calls
 use Rattle.shared_group.specs.declared.calls.CallAnswer.{CallAnswer}
 use Rattle.shared_group.specs.declared.calls.CallAnswer.TheVariants as told
-use Rattle.shared_group.specs.declared.figures.Figure.{Figure}
-use Rattle.shared_group.specs.declared.figures.Figures.{Figures}
 use Rattle.shared_group.specs.Turns.{GroupPass}
 use Rattle.live_monitor.specs.declared.states.Kill.{Kill}
 
@@ -74,6 +78,11 @@ WasDown host turns = SomeTurn (λ turn. ShowsDown host turn.answer) turns
 -- these figures are some turn's
 abbrev pub Showed : Figures → List GroupTurn → Type 0
 Showed figures turns = SomeTurn (λ turn. turn.answer ≡ told.Figures (Ok figures)) turns
+
+-- and members of their view are hosts that there can be
+pub record AreShown (figures : Figures) (turns : List GroupTurn) : Type 0 where
+  pub showed : Showed figures turns
+  pub hosts : AllByRecursion (λ host. host < HOST_LIMIT) figures.view.members
 
 abbrev pub IsCrash : Call → Type 0
 IsCrash (calls.Act (events.Crash host)) = Unit {0}
@@ -135,8 +144,32 @@ pub record IsMonitored (errand : Errand) (turns : List GroupTurn) : Type 0 where
   pub waits : errand.killed ≡ false → NoneFinds errand.kill turns × NoneCrashes turns
   pub killed : errand.killed ≡ true → HasKilled errand.kill turns
 
--- more turns, none of which kills or finds anything new
+-- behind the old turns came a look at the figures, whatever came then
+pub record HasLooked (old new : List GroupTurn) : Type 0 where
+  pub turn : GroupTurn
+  pub more : List GroupTurn
+  pub gained : new ≡ old ++ turn ∷ more
+  pub look : turn.event ≡ calls.Figures
+
+-- more turns under its number, none of which kills or finds anything new
 pub record GoesOn (old new : GroupPass) : Type 0 where
+  pub number : new.number ≡ old.number
   pub mine : List GroupTurn
   pub gained : own_turns new ≡ own_turns old ++ mine
   pub keeps : (errand : Errand) → IsMonitored errand (own_turns old) → IsMonitored errand (own_turns new)
+
+-- ---- the last look
+
+-- there are as many entries as the host that is to be killed waits for
+abbrev pub IsEnough : Option Kill → ℕ → Type 0
+IsEnough None entries = ⊥
+IsEnough (Some kill) entries = kill.after ≤ entries
+
+-- More turns under this number lead to the book, and all of that number's are a monitor's. The host is killed exactly where
+-- the journal of the book has enough entries.
+pub record HasLastLook (machines : ℕ → Machine) (first : BookPicture) (history : List GroupTurn) (number : ℕ) (errand : Errand) (last : BookPicture) : Type 0 where
+  pub more : List GroupTurn
+  pub own : AllByRecursion (λ turn. turn.number ≡ number) more
+  pub book : IsBook machines first (turns (history ++ more)) last
+  pub monitored : IsMonitored errand (turns_by number (history ++ more))
+  pub exact : (errand.killed ≡ true) ↔ IsEnough errand.kill (length_of last.core.log)

@@ -10,6 +10,6 @@ mod members;
 mod rounds;
 mod states;
 
-pub use looks::{look, look_again};
+pub use looks::{last_look, look};
 pub use rounds::round;
 pub use states::{Kill, RunMonitor};

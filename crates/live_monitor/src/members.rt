@@ -3,16 +3,15 @@ ghost use Rattle.std.specs.Prelude.{◌≡◌, ◌<◌, false};
 ghost use Rattle.std.specs.List.{AllByRecursion};
 ghost use Rattle.ft_base.specs.declared.limits.TheConstants.{HOST_LIMIT};
 ghost use Rattle.hist_lock.specs.Passes.{IsOf, own_turns};
-ghost use Rattle.live_monitor.specs.Monitored.{GoesOn, Showed, WasDown};
+ghost use Rattle.live_monitor.specs.Monitored.{AreShown, GoesOn, WasDown};
 
 use crate::bringing::bring_all;
 use crate::states::RunMonitor;
 use ft_base::{HostNo, Members, NoMemory, Servant, Tick};
 use ft_outside::Keeper;
+use group_looks::{Figure, Figures};
 use group_model::{Change, Event, GroupAnswer};
-use shared_group::{
-    Figure, Figures, Pass, SharedGroup, free_calls_may_be_made, sent_may_be_brought,
-};
+use shared_group::{Pass, SharedGroup, free_calls_may_be_made, sent_may_be_brought};
 use std::sync::Wait;
 
 // Reports a host, and brings the views that this sends.
@@ -78,8 +77,7 @@ pub(crate) fn attend_all<R: Wait, S: Servant + Drop, K: Keeper + Drop>(
     now: Tick,
 ) -> Result<(), NoMemory>
     requires own { IsOf group.now.lock pass.old }
-    requires hosts { AllByRecursion (λ host. host < HOST_LIMIT) figures.now.view.members }
-    requires showed { Showed figures.now (own_turns pass.old) }
+    requires shown { AreShown figures.now (own_turns pass.old) }
     ensures own { IsOf group.now.lock pass.new }
     ensures goes_on { GoesOn pass.old pass.new }
     ensures monitor { monitor.new ≡ monitor.old }

@@ -1,7 +1,7 @@
 //! One round of the monitor.
 ghost use Rattle.std.specs.Prelude.{◌≡◌};
 ghost use Rattle.hist_lock.specs.Passes.{IsOf, own_turns};
-ghost use Rattle.live_monitor.specs.Monitored.{IsMonitored, can_be_killed, is_worth};
+ghost use Rattle.live_monitor.specs.Monitored.{HasLooked, IsMonitored, can_be_killed, is_worth};
 
 use crate::bringing::carry_all;
 use crate::looks::look;
@@ -9,7 +9,8 @@ use crate::members::attend_all;
 use crate::states::RunMonitor;
 use ft_base::{NoMemory, Servant, Tick};
 use ft_outside::Keeper;
-use shared_group::{Figures, Pass, SharedGroup};
+use group_looks::Figures;
+use shared_group::{Pass, SharedGroup};
 use std::sync::Wait;
 
 // Whether a checkpoint is worth its cost.
@@ -34,8 +35,10 @@ pub fn round<R: Wait, S: Servant + Drop, K: Keeper + Drop>(
     requires kill { can_be_killed monitor.old.kill }
     requires so_far { IsMonitored monitor.old (own_turns pass.old) }
     ensures own { IsOf group.now.lock pass.new }
+    ensures number { pass.new.number ≡ pass.old.number }
     ensures kill { monitor.new.kill ≡ monitor.old.kill }
     ensures so_far { IsMonitored monitor.new (own_turns pass.new) }
+    ensures looks { HasLooked (own_turns pass.old) (own_turns pass.new) }
 {
     let figures = match look(rt, group, pass, monitor) {
         Ok(figures) => figures,

@@ -4,7 +4,7 @@ ghost use Rattle.live_monitor.specs.Monitored.{kill_due};
 
 use fault_monitor::Monitor;
 use ft_base::{GroupId, HostNo, NoMemory, Tick};
-use shared_group::{Figure, Figures};
+use group_looks::{Figure, Figures};
 use std::alloc::Global;
 use std::marker::Model;
 

@@ -4,5 +4,5 @@
 mod lines;
 mod replies;
 
-pub use lines::push_client_line;
-pub use replies::differs;
+pub use lines::push_call_line;
+pub use replies::{differs, is_same};

@@ -1,11 +1,13 @@
-ghost use Rattle.std.specs.Prelude.{◌≡◌, ◌↔◌, IsTrue, Some, option_map};
-ghost use Rattle.live_report.specs.Lines.{Differs};
+ghost use Rattle.std.specs.Prelude.{◌≡◌, ◌↔◌, IsTrue, option_map};
+ghost use Rattle.live_report.specs.Lines.{differs, is_same};
 
 use client_retry::End;
 use ft_base::Outcome;
 
-fn is_same(one: &Outcome, other: &Outcome) -> bool
-    ensures { IsTrue result ↔ (one.now ≡ other.now) }
+/// Whether two outcomes are equal.
+pub fn is_same(one: &Outcome, other: &Outcome) -> bool
+    ensures value { result ≡ is_same one.now other.now }
+    ensures equal { IsTrue result ↔ (one.now ≡ other.now) }
 {
     match (one, other) {
         (Outcome::Value(one), Outcome::Value(other)) => one.bytes() == other.bytes(),
@@ -14,10 +16,10 @@ fn is_same(one: &Outcome, other: &Outcome) -> bool
     }
 }
 
-/// Whether a call ended by a reply that isn't the group's. `replied` is the reply that the group's journal holds for the
-/// call, if it holds one.
+/// Whether a call ended by an outcome that isn't the group's. `replied` is the reply that the group's journal holds for
+/// the call, if it holds one.
 pub fn differs(end: &End, replied: Option<&Outcome>) -> bool
-    ensures { IsTrue result ↔ Differs end.now (option_map (λ reply. reply.now) replied.entry) }
+    ensures { result ≡ differs end.now (option_map (λ reply. reply.now) replied.entry) }
 {
     match (end, replied) {
         (End::Outcome(_), None) => true,

@@ -4,7 +4,8 @@ use Rattle.std.proofs.lemmas.List.{append-nil}
 use Rattle.std.specs.Prelude.{IfSome}
 use Rattle.fault_script.specs.declared.lines.LineFault.{LineFault}
 use Rattle.script_pieces.specs.Feeds.{IsGain}
-use Rattle.run_top.specs.Headline.{IsPrefixGain, error_text, refusal_text, status_of}
+use Rattle.run_ends.specs.Ends.{IsPrefixGain}
+use Rattle.run_top.specs.Headline.{error_text, refusal_text, status_of}
 
 -- a run that ended with 3 was refused, and what is told is that refusal's
 pub told_refusal : (status number : ℕ) (why : LineFault) (refused : Option (ℕ × LineFault)) (P : List ℕ → Type 0)

@@ -5,7 +5,8 @@ use Rattle.made_scripts.specs.Scripts.{script_text}
 use Rattle.script_pieces.specs.Feeds.{IsGain}
 use Rattle.script_pieces.specs.Runs.{LineEffect, Goes, Stops, RunEffect, lines_of, onward, run, run_of_lines, refusal, script_limit, text_of}
 use Rattle.script_world.specs.World.{World}
-use Rattle.run_top.specs.Headline.{IsPrefixGain, error_text, status_of}
+use Rattle.run_ends.specs.Ends.{IsPrefixGain}
+use Rattle.run_top.specs.Headline.{error_text, status_of}
 use Rattle.run_top.specs.Laws.{MadeRunsAreRuns}
 use Rattle.run_top.specs.Making.{Tally, counted, fresh, tallied}
 use Rattle.run_top.specs.Making as making

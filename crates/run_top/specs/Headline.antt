@@ -1,8 +1,9 @@
 -- The whole run of a script: its output, status, error text and servant calls.
-use Rattle.std.specs.Prelude.{◌≡◌, ◌≢◌, ℕ, ◌+◌, ◌<◌, ◌≤◌, ◌↔◌, ◌⊎◌, ◌++◌, List, [], ◌∷◌, length, take, codes, decimal, Option, Some, None, IfSome, option_map}
+use Rattle.std.specs.Prelude.{◌≡◌, ◌≢◌, ℕ, ◌+◌, ◌≤◌, ◌↔◌, ◌⊎◌, ◌++◌, List, [], ◌∷◌, codes, decimal, Option, Some, None, IfSome}
 use Rattle.std.specs.declared.alloc.Global.{Global}
 use Rattle.std.specs.declared.string.String.{String}
 use Rattle.ft_outside.specs.Outside.{next_count}
+use Rattle.run_ends.specs.Ends.{IfFault, IsPrefixGain, IsTold}
 use Rattle.fault_script.specs.Faults.{fault_text}
 use Rattle.fault_script.specs.declared.lines.LineFault.{LineFault}
 use Rattle.made_scripts.specs.Scripts.{script_text}
@@ -75,19 +76,9 @@ sinks out write_faults err error_faults calls = record {
   calls = calls;
 }
 
--- a text was written whole, or one write of it failed and the sink holds a prefix of the text
-abbrev pub IsTold : Option (List ℕ) → Option (List ℕ) → ℕ → ℕ → List ℕ → Type 0
-IsTold before holds faults count text =
-    ((holds ≡ option_map (λ held. held ++ text) before) × (count ≡ faults))
-    ⊎ ((n : ℕ) × (n < length text) × (holds ≡ option_map (λ held. held ++ take n text) before) × (count ≡ next_count faults))
-
 -- the sink of errors was told a text
 abbrev pub Tells : Outside → Outside → List ℕ → Type 0
 Tells before after text = IsTold before.err after.err before.error_faults after.error_faults text
-
--- a sink that tells what it holds gained a prefix of this output
-abbrev pub IsPrefixGain : Option (List ℕ) → Option (List ℕ) → List ℕ → Type 0
-IsPrefixGain before holds out = (prefix : List ℕ) × (tail : List ℕ) × (out ≡ prefix ++ tail) × IsGain before holds prefix
 
 -- a run was done to its end: its status is answered, all its output is out, its text is told, and its servant calls are made
 pub record IsDone (status : ℕ) (run : Run) (before after : Outside) : Type 0 where
@@ -145,21 +136,6 @@ pub record IsMadeEnd (status rounds : ℕ) (before after : Outside) : Type 0 whe
   pub done : IfEnded status (IsDone status (made_run rounds) before after)
   pub broken : IfBroken status (IsBroken (made_run rounds) before after)
   pub unread : after.left ≡ before.left
-
--- what is told of words of no form
-abbrev pub usage_text : List ℕ
-usage_text = codes "ftc: usage: ftc run [--make N] | live --hosts H --clients C --calls K --style S [--kill X] [--after N]\n"
-
--- what is told where the memory didn't suffice
-abbrev pub no_memory_text : List ℕ
-no_memory_text = codes "ftc: no memory\n"
-
--- the text of each status that is no end of a run
-pub record IfFault (status : ℕ) (P : List ℕ → Type 0) : Type 0 where
-  pub usage : status ≡ 2 → P usage_text
-  pub read : status ≡ 4 → P (codes "ftc: read fault\n")
-  pub written : status ≡ 5 → P (codes "ftc: write fault\n")
-  pub memory : status ≡ 6 → P no_memory_text
 
 -- nothing was read, written or called
 pub record IsUntouched (before after : Outside) : Type 0 where

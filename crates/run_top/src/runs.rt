@@ -1,23 +1,22 @@
 ghost use Rattle.std.specs.Prelude.{◌≡◌, ◌≢◌, ◌⊎◌, IfOk};
 ghost use Rattle.ft_outside.specs.Outside.{next_count};
-ghost use Rattle.run_top.specs.Headline.{IfBroken, IfEnded, IfFault, IsBroken, IsDone, IsProgramRun, IsStatus, IsTold, made_run, no_memory_text, refusal_text, sinks};
+ghost use Rattle.run_ends.specs.Ends.{IfFault, IsTold, end_text};
+ghost use Rattle.run_ends.specs.declared.ends.ProgramFault.TheVariants as faults;
+ghost use Rattle.run_top.specs.Headline.{IfBroken, IfEnded, IsBroken, IsDone, IsProgramRun, IsStatus, made_run, refusal_text, sinks};
 
 use crate::making::Made;
 use crate::playing::Script;
 use crate::words::{is_run, rounds_in};
 use fault_script::LineFault;
 use ft_base::{NoMemory, Steps};
-use ft_outside::{Sink, Source, WholeWrite, write_all};
+use ft_outside::{Sink, Source};
 use itoa::Buffer;
 use made_scripts::make_script;
+use run_ends::{ProgramFault, end, end_by};
 use script_pieces::{FeedResult, RunEnd, run_script, run_text};
 use std::alloc::Global;
 use std::mem;
 use std::sync::ledger::Ledger;
-
-// What is told of words of no form.
-const USAGE: &[u8] =
-    b"ftc: usage: ftc run [--make N] | live --hosts H --clients C --calls K --style S [--kill X] [--after N]\n";
 
 // `ftc: line N: WHY`
 fn refusal_line(alloc: Global, number: u64, why: LineFault) -> Result<Vec<u8>, NoMemory>
@@ -32,26 +31,15 @@ fn refusal_line(alloc: Global, number: u64, why: LineFault) -> Result<Vec<u8>, N
     Ok(text)
 }
 
-// Ends with a status; a fault of the sink of errors changes nothing of it.
-fn end<E: Sink>(err: &mut E, status: u8, text: &[u8]) -> u8
-    ensures status { result ≡ status }
-    ensures told { IsTold (E.holds err.old) (E.holds err.new) (E.count err.old) (E.count err.new) text.now }
-{
-    match write_all(err, text) {
-        WholeWrite::All => status,
-        WholeWrite::Failed => status,
-    }
-}
-
 // A refused line ends with 3 and its text, or with 6 where no memory is found for the text.
 fn refuse<E: Sink>(alloc: Global, err: &mut E, number: u64, why: LineFault) -> u8
     ensures status { (result ≡ 3) ⊎ (result ≡ 6) }
     ensures refused { result ≡ 3 → IsTold (E.holds err.old) (E.holds err.new) (E.count err.old) (E.count err.new) (refusal_text number why) }
-    ensures starved { result ≡ 6 → IsTold (E.holds err.old) (E.holds err.new) (E.count err.old) (E.count err.new) no_memory_text }
+    ensures starved { result ≡ 6 → IsTold (E.holds err.old) (E.holds err.new) (E.count err.old) (E.count err.new) (end_text faults.NoMemory) }
 {
     match refusal_line(alloc, number, why) {
         Ok(text) => end(err, 3, text.as_slice()),
-        Err(NoMemory) => end(err, 6, b"ftc: no memory\n"),
+        Err(NoMemory) => end_by(err, ProgramFault::NoMemory),
     }
 }
 
@@ -78,16 +66,16 @@ fn run_made<B: Sink, E: Sink, L: Ledger>(
         IsTold (E.holds err.old) (E.holds err.new) (E.count err.old) (E.count err.new) text) }
 {
     let Ok(mut made) = Made::new(alloc, rounds) else {
-        return end(err, 6, b"ftc: no memory\n");
+        return end_by(err, ProgramFault::NoMemory);
     };
     let Ok(script) = make_script(alloc, rounds) else {
-        return end(err, 6, b"ftc: no memory\n");
+        return end_by(err, ProgramFault::NoMemory);
     };
     match run_text(alloc, &mut made, script.bytes(), out, steps) {
         FeedResult::On => 0,
         FeedResult::Refused(number, why) => refuse(alloc, err, number, why),
-        FeedResult::WriteFailed => end(err, 5, b"ftc: write fault\n"),
-        FeedResult::NoMemory => end(err, 6, b"ftc: no memory\n"),
+        FeedResult::WriteFailed => end_by(err, ProgramFault::Write),
+        FeedResult::NoMemory => end_by(err, ProgramFault::NoMemory),
     }
 }
 
@@ -134,12 +122,12 @@ pub fn ftc_run<A: Source, B: Sink, E: Sink, L: Ledger>(
 {
     if !is_run(words) {
         let Some(rounds) = rounds_in(words) else {
-            return end(err, 2, USAGE);
+            return end_by(err, ProgramFault::Usage);
         };
         return run_made(alloc, rounds, out, err, steps);
     }
     let Ok(mut script) = Script::new(alloc) else {
-        return end(err, 6, b"ftc: no memory\n");
+        return end_by(err, ProgramFault::NoMemory);
     };
     let end_of_run = run_script(alloc, &mut script, input, out, steps);
     // Entry by entry the world would be freed for nothing: the process ends behind this.
@@ -147,8 +135,8 @@ pub fn ftc_run<A: Source, B: Sink, E: Sink, L: Ledger>(
     match end_of_run {
         RunEnd::Done => 0,
         RunEnd::Refused(number, why) => refuse(alloc, err, number, why),
-        RunEnd::ReadFailed => end(err, 4, b"ftc: read fault\n"),
-        RunEnd::WriteFailed => end(err, 5, b"ftc: write fault\n"),
-        RunEnd::NoMemory => end(err, 6, b"ftc: no memory\n"),
+        RunEnd::ReadFailed => end_by(err, ProgramFault::Read),
+        RunEnd::WriteFailed => end_by(err, ProgramFault::Write),
+        RunEnd::NoMemory => end_by(err, ProgramFault::NoMemory),
     }
 }

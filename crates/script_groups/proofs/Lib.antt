@@ -5,4 +5,3 @@ pub mod Takers
 pub mod Acts
 pub mod Lists
 pub mod MemberLines
-pub mod Formers

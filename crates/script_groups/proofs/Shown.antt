@@ -1,19 +1,16 @@
 -- The views that a group still has.
-use Rattle.std.proofs.Common.{◌≡◌, ℕ, ◌-◌, ◌<◌, arith, Bool, true, false, cond, List, length, Some, None, refl, sym, subst}
-use Rattle.std.specs.Prelude.{slice_index_or, nat_le, ◌&&◌}
+use Rattle.std.proofs.Common.{◌≡◌, ℕ, ◌-◌, ◌<◌, arith, Bool, true, false, cond, length, Some, None, refl, subst}
+use Rattle.std.specs.Prelude.{nat_le, ◌&&◌}
 use Rattle.std.proofs.lemmas.Bool.{leb-true}
 use Rattle.ft_base.specs.declared.views.Style.{Style}
 use Rattle.ft_base.specs.declared.views.View.{View}
 use Rattle.group_core.specs.Telling.{shown_view}
 use Rattle.group_model.specs.Plain.{Common}
-use Rattle.group_model.specs.Views.{view_at, newest, newest_view, no_view}
+use Rattle.group_model.specs.Views.{view_at, newest, no_view}
 use Rattle.group_model.specs.Agreeing.{AreViews, IsViewAt}
 use Rattle.script_groups.specs.Laws.{IsShownView, ShownAreViews}
-use Rattle.ft_base.specs.declared.limits.TheConstants.{HOST_LIMIT}
-use Rattle.script_groups.specs.Acting.{IsSoundGroup}
-use Rattle.script_groups.specs.Groups.{ScriptGroup, common_of}
+use Rattle.script_groups.specs.Groups.{common_of}
 use Rattle.script_groups.specs.Lists.{got}
-use Rattle.script_groups.proofs.Lists.{all_at}
 
 fits : (style : Style) (view : View) (k : ℕ) → IsViewAt style k view → IsShownView view
 fits style view k is = record { hosts = is.hosts; few = is.is.few; different = is.is.different }
@@ -32,11 +29,3 @@ is_shown c version view views some = go (nat_le c.first_kept version) (nat_le ve
 
 pub shown_is : ShownAreViews
 shown_is g version view sound is = is_shown (common_of g) version view sound.common.views sound.common.kept.some is
-
--- a host of the newest view is one that there can be
-pub newest_hosts : (g : ScriptGroup) (hosts : List ℕ) (i : ℕ) → IsSoundGroup g → hosts ≡ (newest_view (common_of g)).members → i < length hosts → slice_index_or hosts i 0 < HOST_LIMIT
-newest_hosts g hosts i sound are inside =
-    let c = common_of g in
-    let last : newest c - 1 < length c.views = omega (arith, sound.common.views.some) in
-    let view = fits c.style (view_at c.views (newest c)) (newest c - 1) (sound.common.views.each (newest c - 1) (view_at c.views (newest c)) (got c.views (newest c - 1) no_view last)) in
-    subst (λ (hs : List ℕ). i < length hs → slice_index_or hs i 0 < HOST_LIMIT) (sym are) (all_at (λ host. host < HOST_LIMIT) (newest_view c).members i 0 view.hosts) inside

@@ -1,55 +1,8 @@
 -- What `show` prints of a group.
-use Rattle.std.specs.Prelude.{ℕ, ◌&&◌, not, Bool, if◌then◌else◌, List, [], ◌∷◌, ◌++◌, length, map}
-use Rattle.std.specs.List.{filter, range_with_len}
-use Rattle.ft_base.specs.Views.{is_led_by, is_passive}
-use Rattle.ft_base.specs.Members.{is_member}
-use Rattle.ft_base.specs.declared.limits.TheConstants.{HOST_LIMIT}
-use Rattle.ft_base.specs.declared.views.Style.{Style}
-use Rattle.ft_base.specs.declared.views.View.{View}
-use Rattle.ft_base.specs.Machine.{Machine}
+use Rattle.std.specs.Prelude.{List}
 use Rattle.ft_report.specs.declared.reports.ReportLine.{ReportLine}
-use Rattle.ft_report.specs.declared.reports.ReportLine.TheVariants as reports
-use Rattle.ft_report.specs.declared.reports.Role.{Role}
-use Rattle.ft_report.specs.declared.reports.Role.TheVariants as roles
-use Rattle.ft_report.specs.declared.reports.Standing.{Standing}
-use Rattle.ft_report.specs.declared.reports.Standing.TheVariants as standings
-use Rattle.group_model.specs.Plain.{Common, Host, Group, state_at}
-use Rattle.group_model.specs.Views.{version, host_no, newest_view}
+use Rattle.group_looks.specs.Showing.{shown_of}
 use Rattle.script_groups.specs.Groups.{ScriptGroup, machine_of, group_of}
-
--- a host that is up, with a servant or without
-abbrev pub standing_up : Machine → Common → Host → Standing
-standing_up m c h =
-    if h.place.loaded then standings.At (version h.known) h.place.position (state_at m c h.place.position)
-    else standings.Blank (version h.known)
-
-abbrev pub standing_of : Machine → Common → Host → Standing
-standing_of m c h = if h.up then standing_up m c h else standings.Down
-
-abbrev pub member_role : Style → View → ℕ → Role
-member_role style view host =
-    if is_passive style then (if is_led_by view host then roles.Primary else roles.Backup) else roles.Active
-
--- the line of a host in a role
-abbrev pub host_line : Machine → Group → Role → ℕ → ReportLine
-host_line m g role host = reports.Member (host_no host) role (standing_of m g.common (g.hosts host))
-
-abbrev pub member_line : Machine → Group → ℕ → ReportLine
-member_line m g host = host_line m g (member_role g.common.style (newest_view g.common) host) host
-
--- a host that is no member any more, and has a servant still
-abbrev pub is_former : Group → ℕ → Bool
-is_former g host = not (is_member host (newest_view g.common).members) && (g.hosts host).place.loaded
-
-unfoldable pub formers : Group → List ℕ
-formers g = filter (is_former g) (range_with_len 0 HOST_LIMIT)
-
--- the group, its members in order of joining, and then those that were members, by number
-abbrev pub shown_of : List ℕ → Machine → Group → List ReportLine
-shown_of name m g =
-    let view = newest_view g.common in
-    reports.Show name view.version (length g.common.journal) g.common.mark (record { 0 = g.common.time })
-    ∷ map (member_line m g) view.members ++ map (host_line m g roles.Former) (formers g)
 
 abbrev pub shown : ScriptGroup → List ReportLine
 shown g = shown_of g.name (machine_of g) (group_of g)

@@ -153,15 +153,6 @@ impl ScriptGroup {
         self.core.log().length()
     }
 
-    /// How many of them the newest checkpoint covers.
-    pub(crate) fn mark(&self) -> u32
-        requires { IsKept self.now }
-        ensures { result ≡ (common_of self.now).mark }
-    {
-        cores_tell();
-        self.core.log().mark()
-    }
-
     /// The greatest tick of an acceptance or a checkpoint.
     pub fn time(&self) -> Tick
         requires { IsKept self.now }

@@ -1,5 +1,5 @@
 -- Over a keeper of which it is told that no write fails, no answer shows a failed log.
-use Rattle.std.proofs.Common.{◌≡◌, inl, inr, Bool, true, false, List, [], ◌∷◌, ℕ, Option, Some, refl, subst, ap, ◌∙◌}
+use Rattle.std.proofs.Common.{◌≡◌, inl, inr, Bool, true, false, List, [], ℕ, Option, Some, refl, subst, ap, ◌∙◌}
 use Rattle.ft_base.specs.declared.decisions.Decision.{Decision}
 use Rattle.ft_base.specs.declared.decisions.Decision.TheVariants as decisions
 use Rattle.ft_outside.specs.Keeping.{plan_after, IsForetold}
@@ -17,7 +17,7 @@ use Rattle.group_model.specs.declared.events.GroupAnswer.TheVariants as answers
 use Rattle.group_model.specs.declared.events.Out.{Out}
 use Rattle.group_model.specs.Events.{shows_fault}
 use Rattle.group_hosts.specs.Keeping.{WroteNothing, Wrote, FailedToWrite, WroteCheckpoint, WroteBy, WroteRefused, WroteTaken, WroteFor}
-use Rattle.group_core.specs.Telling.{IsCounted, LogFaultsAreCounted}
+use Rattle.group_core.specs.Telling.{LogFaultsAreCounted}
 use Rattle.shared_group.specs.Books.{CountsFaults}
 
 -- the answer shows no failed write, and none is told to come

@@ -26,8 +26,8 @@ use Rattle.shared_group.specs.declared.calls.CallAnswer.TheVariants as told
 use Rattle.shared_group.specs.declared.calls.QueuedAnswer.{QueuedAnswer}
 use Rattle.std.specs.Prelude.{Result, IfOk}
 use Rattle.ft_base.specs.declared.memory.NoMemory.{NoMemory}
-use Rattle.shared_group.specs.declared.figures.Figures.{Figures}
-use Rattle.shared_group.specs.Looks.{AreFigures}
+use Rattle.group_looks.specs.declared.figures.Figures.{Figures}
+use Rattle.group_looks.specs.Looks.{AreFigures}
 use Rattle.shared_group.specs.Books.{BookPicture, DoesFor, IsEntered, IsPut, entered, looked, without_room}
 use Rattle.shared_group.specs.Shared.{AllMayCome, Carries, HandsOut, Shared, Takes, answered, asking, version_named, view_with, without_out}
 use Rattle.shared_group.proofs.Going.{few_sent}

@@ -1,7 +1,7 @@
 pub mod Calm
 pub mod Doing
+pub mod Finding
 pub mod Going
 pub mod Longer
-pub mod Looking
 pub mod May
 pub mod Taking

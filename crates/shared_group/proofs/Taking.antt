@@ -114,10 +114,5 @@ module _ (machines : ℕ → Machine) where
   -- the object that the lock gives back
   pub whole : (lock : GroupLock) (pass : GroupPass) (book : BookPicture)
       → (history : List (Turn Call CallAnswer)) × Continues (numbers pass) pass.seen history × IsBook machines lock.opening (calls history) book
-      → IsWhole machines lock pass book.core
-  whole lock pass book closed = record {
-    history = closed.0;
-    seen = closed.1;
-    leads = λ o stands. let at = closed.2.at o stands in (at.now, at.legal, at.stands);
-    faults = closed.2.faults;
-  }
+      → IsWhole machines lock pass book
+  whole lock pass book closed = record { history = closed.0; seen = closed.1; book = closed.2 }

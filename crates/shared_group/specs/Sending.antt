@@ -79,7 +79,7 @@ founding_send S a = search (sendable, crosses) depth 20
 host_send : (S : RattleType) (s : ServantGhosts S.Denot) → IsSend S → IsSend (hosts.the_field S s).row
 host_send S s a = search (sendable, crosses, replica_send, holdback_send) depth 20
 
-core_send : (S K : RattleType) (s : ServantGhosts S.Denot) (k : KeeperGhosts K.Denot) → IsSend S → IsSend K → IsSend (cores.the_field S K s k).row
+pub core_send : (S K : RattleType) (s : ServantGhosts S.Denot) (k : KeeperGhosts K.Denot) → IsSend S → IsSend K → IsSend (cores.the_field S K s k).row
 core_send S K s k a b = search (sendable, crosses, log_send, founding_send, host_send) depth 20
 
 -- ---- what references are made of

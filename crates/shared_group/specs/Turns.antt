@@ -4,7 +4,7 @@ use Rattle.ft_base.specs.Machine.{Machine}
 use Rattle.group_model.specs.declared.events.GroupAnswer.{GroupAnswer}
 use Rattle.group_model.specs.Agreeing.{IsSound}
 use Rattle.group_model.specs.Plain.{Group}
-use Rattle.group_core.specs.Cores.{CorePicture, Stands}
+use Rattle.group_core.specs.Cores.{Stands}
 use Rattle.hist_lock.specs.declared.standings.Turn.{Turn}
 use Rattle.hist_lock.specs.Histories.{Continues, IsLegal, calls, turn_by}
 use Rattle.hist_lock.specs.Passes.{IsOf, IsTurn, LockValue, PassValue, numbers, own_turns}
@@ -13,7 +13,7 @@ use Rattle.shared_group.specs.declared.calls.Call.{Call}
 use Rattle.shared_group.specs.declared.calls.CallAnswer.{CallAnswer}
 use Rattle.shared_group.specs.declared.calls.CallAnswer.TheVariants as told
 use Rattle.shared_group.specs.declared.calls.QueuedAnswer.{QueuedAnswer}
-use Rattle.shared_group.specs.Books.{AreCounted, BookPicture, IsBook}
+use Rattle.shared_group.specs.Books.{BookPicture, IsBook}
 use Rattle.shared_group.specs.Shared.{Legal, Shared, Steps, opening}
 
 abbrev pub GroupLock : Type 0
@@ -96,11 +96,8 @@ module _ (machines : ℕ → Machine) where
     pub legal : IsGroupHistory lock later.seen
     pub given : (o : Group) → Stands machines lock.opening.core o → IsGiven o turn.history call answer
 
-  -- A whole history, which begins with what the pass had seen; the core stands for a group to which it leads, and its
-  -- keeper counts the faults that the history shows.
-  pub record IsWhole (lock : GroupLock) (pass : GroupPass) (core : CorePicture) : Type 0 where
+  -- A whole history, which begins with what the pass had seen, and leads to this book.
+  pub record IsWhole (lock : GroupLock) (pass : GroupPass) (object : BookPicture) : Type 0 where
     pub history : List (Turn Call CallAnswer)
     pub seen : Continues (numbers pass) pass.seen history
-    pub leads : (o : Group) → Stands machines lock.opening.core o
-        → (last : Shared) × Legal (machines o.common.kind) (opening o) (calls history) last × Stands machines core last.group
-    pub faults : AreCounted lock.opening.core.log (calls history) core.log
+    pub book : IsBook machines lock.opening (calls history) object

@@ -15,11 +15,11 @@ ghost use Rattle.shared_group.specs.Books.{CountsFaults, DoesFor, IsBook, IsPut,
 ghost use Rattle.shared_group.specs.Shared.{Shared, answered, shows_fault_by, version_named, view_with, without_out};
 
 use crate::calls::{AskAnswer, Call, CallAnswer, QueuedAnswer};
-use crate::figures::{figures_of, reply_to};
 use crate::traces::TracedCore;
 use ft_base::{HostNo, Key, Name, Par, Servant, Stop, Tick, Version, View, gives_of};
 use ft_outside::Keeper;
 use group_core::{GroupCore, cores_tell, event_of};
+use group_looks::{figures_of, reply_to};
 use group_model::{
     Asked, Event, GroupAnswer, Out, OutList, few_are_sent, steps_go_on, takers_may_take,
     what_is_sent_agrees,
@@ -136,6 +136,13 @@ impl<S: Servant + Drop, K: Keeper> Book<S, K> {
             queue: VecDeque::new(alloc),
             alloc,
         }
+    }
+
+    /// Its core.
+    pub fn core(&self) -> &GroupCore<S, K>
+        ensures { result.now ≡ self.now.core }
+    {
+        self.traced.core()
     }
 
     /// Its core, once nothing more is asked.

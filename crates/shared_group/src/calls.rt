@@ -1,6 +1,6 @@
 //! What is asked of a group in a turn, and what is answered.
-use crate::figures::Figures;
 use ft_base::{HostNo, Key, NoMemory, Outcome, Par, Tick, View};
+use group_looks::Figures;
 use group_model::{Asked, Event, GroupAnswer};
 use std::snapshot::Snapshot;
 

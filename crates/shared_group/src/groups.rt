@@ -13,10 +13,10 @@ ghost use Rattle.shared_group.specs.Turns.{AreFiguresOf, IsAsk, IsCarry, IsCheck
 
 use crate::books::Book;
 use crate::calls::{AskAnswer, Call, CallAnswer, QueuedAnswer};
-use crate::figures::Figures;
 use ft_base::{GroupId, HostNo, Key, Name, NoMemory, Outcome, Servant, Tick, View};
 use ft_outside::Keeper;
 use group_core::GroupCore;
+use group_looks::Figures;
 use group_model::{Asked, Event, GroupAnswer};
 use hist_lock::HistLock;
 use iogr_reference::{Ior, Ports, ref_of};
@@ -289,8 +289,8 @@ impl<S: Servant + Drop, K: Keeper + Drop> SharedGroup<S, K> {
         self.lock.meet(pass, note);
     }
 
-    /// Waits for a turn that it doesn't end, and gives the core, which stands for a group to which the whole history leads.
-    pub fn close<R: Wait>(self, rt: &R, pass: Pass<S, K>) -> GroupCore<S, K>
+    /// Waits for a turn that it doesn't end, and gives the book to which the whole history leads.
+    pub fn close<R: Wait>(self, rt: &R, pass: Pass<S, K>) -> Book<S, K>
         requires own { IsOf self.lock pass }
         ensures { IsWhole S.machine self.lock pass result }
     {
@@ -300,7 +300,7 @@ impl<S: Servant + Drop, K: Keeper + Drop> SharedGroup<S, K> {
             type_id: _type_id,
             ports: _ports,
         } = self;
-        lock.close(rt, pass).into_core()
+        lock.close(rt, pass)
     }
 
     /// The group's number.

@@ -7,13 +7,13 @@
 
 mod books;
 mod calls;
-mod figures;
 mod groups;
 mod laws;
 mod traces;
 
 pub use books::Book;
 pub use calls::{AskAnswer, Call, CallAnswer, QueuedAnswer};
-pub use figures::{Figure, Figures};
 pub use groups::{Note, Pass, SharedGroup};
-pub use laws::{calls_stay_possible, free_calls_may_be_made, sent_may_be_brought};
+pub use laws::{
+    calls_stay_possible, entries_found_stay, free_calls_may_be_made, sent_may_be_brought,
+};

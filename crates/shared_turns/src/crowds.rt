@@ -106,13 +106,13 @@ pub fn run<R: Threads + Wait + Sync>(
     let told = all.len();
     let each_once = is_each_once(all).map_err(no_memory)?;
     let figures = group.figures(rt, &mut main).map_err(no_memory)?;
-    let core = group.close(rt, main);
+    let book = group.close(rt, main);
     Ok(Crowd {
         told,
         callers: CALLERS,
         each_once,
         rise,
         changed: figures.view.version.0 > 1,
-        entries: core.log().length(),
+        entries: book.core().log().length(),
     })
 }

@@ -93,7 +93,7 @@ pub fn run<R: Wait>(rt: &R, alloc: Global) -> Result<Pair> {
     let two = replied(rt, alloc, &group, &mut main, 2)?;
     let third = meet_note(rt, alloc, &group, &mut main)?;
     let noted = entries(rt, &group, &mut main)?;
-    let core = group.close(rt, main);
+    let book = group.close(rt, main);
     Ok(Pair {
         first,
         second,
@@ -101,6 +101,6 @@ pub fn run<R: Wait>(rt: &R, alloc: Global) -> Result<Pair> {
         replied: [one, two],
         third,
         noted,
-        closed: core.log().length(),
+        closed: book.core().log().length(),
     })
 }

@@ -11,4 +11,4 @@ attend-requires-clause-down g c down =
     let figure = c.figure-item.result in
     let among = has_down items c.loop-figure.figure-index figure c.loop-figure-test.true c.figure-item.is down in
     some_on (λ turn. ShowsDown figure.host.0 turn.answer) c.args.pass.now c.loop-figure.pass c.loop-figure.invariant.1
-    (was_down c.args.figures.now figure.host.0 (own_turns c.args.pass.now) c.requires.showed (subst (HasDown figure.host.0) c.as_slice-figure-items.ensures.value among))
+    (was_down c.args.figures.now figure.host.0 (own_turns c.args.pass.now) c.requires.shown.showed (subst (HasDown figure.host.0) c.as_slice-figure-items.ensures.value among))

@@ -3,7 +3,7 @@ use Rattle.script_pieces.specs.Feeds.{IsGain}
 use Rattle.script_pieces.specs.Runs.{run}
 use Rattle.script_pieces.specs.Scripts.{bytes_read}
 use Rattle.script_world.specs.World.{World}
-use Rattle.run_top.specs.Headline.{IsTold}
+use Rattle.run_ends.specs.Ends.{IsTold}
 use Rattle.run_top.specs.Playing as playing
 use Rattle.run_top.proofs.EndLemmas.{nothing_is_prefix, refusal_status, told_refusal, where_known, where_told, whole_is_prefix}
 use Rattle.run_top.proofs.runs.ftc_run.Goals as goal
@@ -81,7 +81,7 @@ returns-in-Refused g c =
           no_read_fault = search rules;
           write_fault = search rules;
           no_write_fault = search rules;
-          text = record { usage = search rules; read = search rules; written = search rules; memory = search rules };
+          text = record { usage = search rules; read = search rules; written = search rules; memory = search rules; bound = search rules; started = search rules };
           untouched = search rules;
         };
       };

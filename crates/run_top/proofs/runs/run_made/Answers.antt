@@ -1,7 +1,7 @@
 use Rattle.std.proofs.Common.{rules, ◌≡◌, ◌∙◌, List, ℕ, Some, subst}
 use Rattle.made_scripts.specs.Scripts.{script_text}
 use Rattle.script_pieces.specs.Runs.{run}
-use Rattle.run_top.specs.Headline.{IsTold}
+use Rattle.run_ends.specs.Ends.{IsTold}
 use Rattle.run_top.specs.Making as making
 use Rattle.run_top.specs.Making.{Tally, fresh}
 use Rattle.run_top.proofs.EndLemmas.{refusal_status, told_refusal}

@@ -1,0 +1,5 @@
+pub mod Counting
+pub mod Ending
+pub mod Leaving
+pub mod Running
+pub mod Telling
