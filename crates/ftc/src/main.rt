@@ -1,16 +1,25 @@
-//! `ftc`: Fault Tolerant CORBA from a script. It makes the real devices, calls
-//! [`run_top::ftc_run`] and ends with the status.
+//! `ftc`: Fault Tolerant CORBA from a script, and of running hosts. It makes the real devices, calls [`programs::ftc_main`]
+//! and ends with the status.
 #![tactic(auto)]
+
+mod programs;
 
 ghost use Rattle.std.specs.Prelude.{◌≡◌, ◌<◌};
 
+use crate::programs::ftc_main;
 use ft_base::Steps;
-use ft_outside::{StdSink, StdSource, write_all};
-use run_top::ftc_run;
+use ft_outside::{Sink, Source, StdSink, StdSource};
+use outside_crews::{Crew, StdClock};
+use outside_links::TcpNetwork;
+use run_ends::{ProgramFault, end_by};
 use std::marker::Brand;
+use std::net::{Net, TcpListener, TcpStream};
 use std::process::ExitCode;
 use std::rt::Env;
+use std::sync::Wait;
 use std::sync::ledger::{Blank, Ledger};
+use std::thread::Threads;
+use std::time::Clock;
 use std::{env, io};
 
 // The most bytes of output that wait.
@@ -25,26 +34,40 @@ fn words_of(rt: &(impl Env + AllocGlobal)) -> io::Result<Vec<String>> {
     Ok(words)
 }
 
-// The run with the real devices. Its output waits in a buffer, and its errors do not. Servant calls
-// are counted in proofs alone.
-fn run_counted<L: Ledger>(rt: &HostRuntime, words: &[String], blank: Blank) -> u8
+// The run over the system's sockets, clock and threads. Servant calls are counted in proofs alone.
+fn run_counted<
+    L: Ledger,
+    R: Net<Listener = TcpListener, Stream = TcpStream>
+        + Threads
+        + Wait
+        + Clock
+        + AllocGlobal
+        + Copy
+        + Send
+        + Drop
+        + 'static,
+    I: Source,
+    B: Sink,
+    E: Sink,
+>(rt: &R, words: &[String], input: &mut I, out: &mut B, err: &mut E, blank: Blank) -> u8
     requires name { blank.name ≡ L.name }
     requires parts { blank.parts ≡ L.parts }
     requires some { 0 < blank.parts }
 {
     let mut steps = Steps::<L>::new(blank);
-    let mut input = StdSource::new(rt.reader());
-    let mut out = match io::BufWriter::with_capacity(rt.alloc(), OUTPUT, rt.stdout()) {
-        Ok(writer) => StdSink::new(writer),
-        Err(_) => return starved(rt),
-    };
-    let mut err = StdSink::new(rt.stderr());
-    ftc_run(
+    let mut net = TcpNetwork::new(*rt);
+    let clock = StdClock::new(*rt);
+    let mut crew = Crew::new(*rt, rt.alloc());
+    ftc_main(
+        rt,
         rt.alloc(),
         words,
-        &mut input,
-        &mut out,
-        &mut err,
+        input,
+        out,
+        err,
+        &mut net,
+        &clock,
+        &mut crew,
         &mut steps,
     )
 }
@@ -54,8 +77,7 @@ fn starved(rt: &HostRuntime) -> u8
     ensures { result ≡ 6 }
 {
     let mut err = StdSink::new(rt.stderr());
-    let _ = write_all(&mut err, b"ftc: no memory\n");
-    6
+    end_by(&mut err, ProgramFault::NoMemory)
 }
 
 fn main(rt: HostRuntime) -> ExitCode {
@@ -68,5 +90,19 @@ fn main(rt: HostRuntime) -> ExitCode {
             Vec::new(rt.alloc())
         }
     };
-    ExitCode::from(run_counted::<Brand>(&rt, words.as_slice(), Blank::new(1)))
+    let mut input = StdSource::new(rt.reader());
+    // Output waits in a buffer, and errors do not.
+    let mut out = match io::BufWriter::with_capacity(rt.alloc(), OUTPUT, rt.stdout()) {
+        Ok(writer) => StdSink::new(writer),
+        Err(_) => return ExitCode::from(starved(&rt)),
+    };
+    let mut err = StdSink::new(rt.stderr());
+    ExitCode::from(run_counted::<Brand, _, _, _, _>(
+        &rt,
+        words.as_slice(),
+        &mut input,
+        &mut out,
+        &mut err,
+        Blank::new(1),
+    ))
 }
