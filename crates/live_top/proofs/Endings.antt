@@ -1,19 +1,11 @@
 -- How a run ends: what its words say, and what its sink of output gained.
-use Rattle.std.proofs.Common.{rules, ◌≡◌, ◌≢◌, ◌↔◌, ◌++◌, ℕ, sym, List, [], take, drop, Option, Some, None}
+use Rattle.std.proofs.Common.{◌≡◌, ◌≢◌, ◌↔◌, ◌++◌, ℕ, sym, List, take, drop, Option}
 use Rattle.std.specs.Prelude.{option_map}
-use Rattle.std.proofs.lemmas.List.{append-nil, take-append-drop}
+use Rattle.std.proofs.lemmas.List.{take-append-drop}
 use Rattle.run_ends.specs.Ends.{IsPrefixGain}
-use Rattle.script_pieces.specs.Feeds.{IsGain}
 use Rattle.live_words.specs.Words.{Text}
 use Rattle.live_words.specs.declared.asking.LiveWords.{LiveWords}
 use Rattle.live_top.specs.Headline.{AreOfNoForm, AsksFor}
-
--- no run was read of the words, so they are of no form
-pub none_asked : (words : List Text) → ((live : LiveWords) → (None ≡ Some live) ↔ AsksFor words live) → AreOfNoForm words
-none_asked words h = λ live asks. no_some ((h live).1 asks)
-  where
-    no_some : {A : Type 0} {x : A} → None ≡ Some x → ⊥
-    no_some e = search rules
 
 -- words that ask for a run aren't refused
 pub form_kept : (words : List Text) (live : LiveWords) (status : ℕ) → AsksFor words live → status ≢ 2 → (status ≡ 2) ↔ AreOfNoForm words
@@ -22,7 +14,3 @@ form_kept words live status asks goes_on = (λ is. absurd (goes_on is), λ none.
 -- a front that was written is a prefix
 pub front_gained : (before holds : Option (List ℕ)) (text : List ℕ) (n : ℕ) → holds ≡ option_map (λ held. held ++ take n text) before → IsPrefixGain before holds text
 front_gained before holds text n is = (take n text, drop n text, sym (take-append-drop n text), is)
-
--- so is the whole
-pub whole_gained : (before holds : Option (List ℕ)) (text : List ℕ) → IsGain before holds text → IsPrefixGain before holds text
-whole_gained before holds text gain = (text, [], sym (append-nil text), gain)
