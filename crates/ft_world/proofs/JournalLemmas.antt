@@ -1,5 +1,5 @@
 -- What holds of every world that a script makes, from what holds of every group whatever events it has.
-use Rattle.std.proofs.Common.{◌≡◌, ℕ, ◌+◌, ◌-◌, ◌<◌, arith, Bool, false, cond, List, [], ◌∷◌, ◌++◌, length, Option, Some, None, refl, sym, ap, subst, ◌∙◌}
+use Rattle.std.proofs.Common.{◌≡◌, ℕ, ◌+◌, ◌-◌, ◌<◌, arith, Bool, false, cond, List, [], ◌∷◌, ◌++◌, length, Option, Some, None, refl, ap, ◌∙◌}
 use Rattle.std.proofs.lemmas.Bool.{ne_eqb}
 use Rattle.std.specs.Prelude.{◌==◌, is_some, option_map, slice_get, sum_by}
 use Rattle.std.specs.List.{AllByRecursion}
@@ -7,8 +7,7 @@ use Rattle.std.proofs.lemmas.List.Sums.{sum_by-cons}
 use Rattle.group_model.specs.declared.events.Event.TheVariants as events
 use Rattle.group_model.specs.Laws.{DeposedAppendNothing}
 use Rattle.group_model.specs.Plain.{Group}
-use Rattle.script_groups.specs.Groups.{ScriptGroup, common_of, entries_caught_up, entries_run, group_of, is_failing, machine_of, orders_applied, placed, servant_calls, with_more}
-use Rattle.script_groups.specs.declared.happenings.Happening.{Happening}
+use Rattle.script_groups.specs.Groups.{ScriptGroup, common_of, entries_caught_up, entries_run, group_of, is_failing, machine_of, orders_applied, placed, servant_calls}
 use Rattle.script_groups.specs.Laws.{CallsAreCounted, GroupsGrow, HistoriesGoOn, JournalsAcceptOnce, RepliesStay}
 use Rattle.fault_script.specs.declared.lines.Line.{Line}
 use Rattle.fault_script.specs.declared.lines.LineFault.{LineFault}
@@ -23,11 +22,14 @@ use Rattle.script_world.specs.declared.messages.Message.TheVariants as messages
 use Rattle.ft_world.specs.Acts.{act, act_first}
 use Rattle.ft_world.specs.DeadArms.{GoesByMade, HasClient, HasGroup, NamesMade, ScriptsNameMade}
 use Rattle.ft_world.specs.Laws.{AllLater, DeposedDoNothing, DeposedDoesNothing, HasMore, KeepsEntries, ScriptsAcceptOnce, ScriptsKeepEntries, ServantsAreCalled, calls_from, calls_of_groups, or_end, worked, world_after}
+use Rattle.ft_world.specs.Leading.{ScriptsKnowTheirViews}
+use Rattle.ft_world.specs.Messages.{RepliesOnce, ScriptsReplyOnce}
 use Rattle.world_turns.specs.Answers.{calls_of}
 use Rattle.world_turns.specs.Turns.{Turn, Goes, Refused, first_cause, judged, total_causes, totals_of, unless}
 use Rattle.ft_world.proofs.KeptLemmas.{GoesOn, first_on}
-use Rattle.ft_world.proofs.LaterLemmas.{KnownCalls, all_next, all_stay}
+use Rattle.ft_world.proofs.LaterLemmas.{KnownCalls, all_next, all_stay, keeps_entries}
 use Rattle.ft_world.proofs.MadeLemmas.{AllMade, GoesBy, IsNumber, IsOfOne, Names, all_both, all_so}
+use Rattle.ft_world.proofs.TruthLemmas.{AllTrue, IsTrue, KnownGroups, knows_views}
 
 -- ---- what holds of every group
 
@@ -79,15 +81,10 @@ groups_later w (line ∷ script) =
     (all_next w.groups next.groups (world_after next script).groups here (groups_later next script)) here
 
 module _ (grow : GroupsGrow) (stay : RepliesStay) where
-  keeps : (g : ScriptGroup) (more : List Happening) → KeepsEntries g (with_more g more)
-  keeps g more =
-      let grown = grow g more in
-      record { id = refl; more = grown.more; journal = grown.journal; replies = stay g more }
-
   all_keep : (gs hs : List ScriptGroup) → AllLater HasMore gs hs → AllLater KeepsEntries gs hs
   all_keep [] hs all = tt
   all_keep (g ∷ gs) [] all = absurd all
-  all_keep (g ∷ gs) (h ∷ hs) all = (subst (KeepsEntries g) (sym all.0.is) (keeps g all.0.more), all_keep gs hs all.1)
+  all_keep (g ∷ gs) (h ∷ hs) all = (keeps_entries grow stay g h all.0, all_keep gs hs all.1)
 
   pub scripts_keep_entries : ScriptsKeepEntries
   scripts_keep_entries w script = all_keep w.groups (world_after w script).groups (groups_later w script)
@@ -147,6 +144,9 @@ work_made : (w : World) (t : Turn) → LineGoes w t → AllMade w → AllMade (w
 work_made w (Goes next report calls) on m = on.made m
 work_made w (Refused why calls) on m = m
 
+made_at_first : AllMade empty
+made_at_first = record { ordered = λ i g at. absurd cc; clients = tt; messages = tt }
+
 all_made : (w : World) (script : List Line) → AllMade w → AllMade (world_after w script)
 unfolding world_after
 all_made w [] m = m
@@ -154,6 +154,9 @@ all_made w (line ∷ script) m =
     let next = worked w (act_first w line) in
     let here = work_made w (act_first w line) (line_goes w line) m in
     either_so (λ v. AllMade v) (act w line) (world_after next script) next (all_made next script here) here
+
+pub made_after : (script : List Line) → AllMade (world_after empty script)
+made_after script = all_made empty script made_at_first
 
 has_client : (w : World) (client : ℕ) → client < length w.clients → HasClient w client
 has_client w client within = ap is_some (some_at w.clients client within).1
@@ -182,7 +185,34 @@ goes_by_made w c by =
 pub scripts_name_made : ScriptsNameMade
 scripts_name_made script =
     let w : World = world_after empty script in
-    let m : AllMade w = all_made empty script (record { groups = tt; clients = tt; messages = tt }) in (
+    let m : AllMade w = made_after script in (
       all_so (Names (length w.groups) (length w.clients)) (NamesMade w) w.messages (names_made w) m.messages,
       all_so (GoesBy (length w.groups)) (GoesByMade w) w.clients (goes_by_made w) m.clients,
     )
+
+-- ---- what messages say, and what hosts know
+
+module _ (known : KnownGroups) where
+  work_true : (w : World) (t : Turn) → LineGoes w t → AllMade w → AllTrue w → AllTrue (worked w t)
+  work_true w (Goes next report calls) on m t = on.told known m t
+  work_true w (Refused why calls) on m t = t
+
+  all_true : (w : World) (script : List Line) → AllMade w → AllTrue w → AllTrue (world_after w script)
+  unfolding world_after
+  all_true w [] m t = t
+  all_true w (line ∷ script) m t =
+      let next : World = worked w (act_first w line) in
+      let goes : LineGoes w (act_first w line) = line_goes w line in
+      let here : AllTrue next = work_true w (act_first w line) goes m t in
+      either_so (λ v. AllTrue v) (act w line) (world_after next script) next (all_true next script (work_made w (act_first w line) goes m) here) here
+
+  pub truth_after : (script : List Line) → AllTrue (world_after empty script)
+  truth_after script = all_true empty script made_at_first (record { groups = tt; messages = tt })
+
+  pub scripts_reply_once : ScriptsReplyOnce
+  scripts_reply_once script =
+      let w : World = world_after empty script in
+      all_so (IsTrue w.groups w.messages) (RepliesOnce w.groups w.messages) w.messages (λ m is. is.0) (truth_after script).messages
+
+  pub scripts_know_their_views : ScriptsKnowTheirViews
+  scripts_know_their_views script = knows_views (world_after empty script) (truth_after script)

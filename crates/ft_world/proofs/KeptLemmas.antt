@@ -2,7 +2,7 @@
 -- the clock goes on by less than 2^32, and each client begins one invocation at most.
 use Rattle.std.proofs.Common.{◌≡◌, ℕ, suc, ◌+◌, ◌<◌, ◌≤◌, ◌^◌, arith, Bool, true, false, List, [], ◌∷◌, ◌++◌, length, Option, Some, None, Result, Ok, Err, refl, ap, subst, ◌∙◌}
 use Rattle.std.proofs.lemmas.List.{length_push}
-use Rattle.std.specs.Prelude.{if◌then◌else◌}
+use Rattle.std.specs.Prelude.{◌-◌, if◌then◌else◌, slice_get, IfSome}
 use Rattle.std.specs.List.{AllByRecursion}
 use Rattle.ft_base.specs.declared.decisions.Stop.{Stop}
 use Rattle.ft_base.specs.declared.numbers.GroupId.{GroupId}
@@ -29,6 +29,7 @@ use Rattle.group_model.specs.declared.events.Event.{Event}
 use Rattle.group_model.specs.declared.events.Event.TheVariants as events
 use Rattle.group_model.specs.declared.events.GroupAnswer.{GroupAnswer}
 use Rattle.group_model.specs.declared.events.GroupAnswer.TheVariants as answers
+use Rattle.group_model.specs.Sending.{sent_by}
 use Rattle.group_model.specs.Views.{host_no}
 use Rattle.property_manager.specs.declared.effective.Levels.{Levels}
 use Rattle.property_manager.specs.declared.faults.PropertyFault.{PropertyFault}
@@ -42,13 +43,14 @@ use Rattle.shipped_servants.specs.declared.kinds.Kind.{Kind}
 use Rattle.script_world.specs.declared.hosts.HostState.{HostState}
 use Rattle.script_world.specs.declared.messages.Message.{Message}
 use Rattle.script_world.specs.Sound.{HasActed, IsKeptWorld}
-use Rattle.script_world.specs.World.{World, client_named, is_up, message_numbered, passed, with_client, with_event, with_failing, with_fault, with_hosts, with_one_client, with_settings, with_subscribers, without_group}
+use Rattle.script_world.specs.World.{World, client_named, is_up, message_numbered, passed, with_client, with_event, with_failing, with_fault, with_hosts, with_messages, with_one_client, with_settings, with_subscribers, without_group}
 use Rattle.script_world.specs.Worlds.{begin}
 use Rattle.script_world.specs.declared.worlds.Begun.{Begun}
 use Rattle.ft_world.proofs.ComingLemmas.{arrives_keeps, does_keeps, link_keeps, news_keep}
-use Rattle.ft_world.proofs.KeepingLemmas.{Keeps, Makes, acted_made, as_many, behind, client_hears, client_made, client_tells, client_within, group_acts, group_sends, host_starts, host_stops, if_keeps, log_fails, one_made, same, untouched}
-use Rattle.ft_world.proofs.MadeLemmas.{AllMade, AreMade, GoesBy, IsIn, IsNumber, IsOfOne, Names, all_so, binding_so, more_clients, more_groups, more_messages, number_on, or_other, starting_so, starting_told, taken_so, taking_so}
-use Rattle.ft_world.proofs.PlaceLemmas.{IsOneNamed, IsOneOf, called_one, found_one}
+use Rattle.ft_world.proofs.KeepingLemmas.{Keeps, Makes, MaySend, alike, as_many, behind, client_hears, client_made, client_tells, client_within, clients_change, elsewhere, group_acts, group_sends, host_starts, host_stops, if_keeps, log_fails, none_more, one_made, same, sends_only, sends_then}
+use Rattle.ft_world.proofs.MadeLemmas.{AllMade, AreMade, GoesBy, IsNumber, IsOfOne, Names, binding_so, more_clients, more_groups, or_other, order_with_next, starting_so, starting_told, taken_so, taking_so}
+use Rattle.ft_world.proofs.TruthLemmas.{AllTrue, IsTrue, KnownGroups, later_true, opened_knows, stopped_know}
+use Rattle.ft_world.proofs.PlaceLemmas.{IsOneNamed, IsOneOf, called_one, found_one, message_one}
 use Rattle.script_groups.specs.Lists.{all_get, all_push, all_set}
 use Rattle.ft_world.specs.Acts.{act_first}
 use Rattle.ft_world.specs.Clients.{begun, call_by, call_from, call_said, call_to, gone_for, gone_said, started, started_by}
@@ -58,6 +60,7 @@ use Rattle.world_management.specs.Hosts.{change_of, change_to, changed, changes_
 use Rattle.world_management.specs.Membership.{first_members, fit, report_of}
 use Rattle.ft_world.specs.Laws.{AllLater, HasMore, calls_of_groups}
 use Rattle.script_groups.specs.Laws.{CallsGoOn}
+use Rattle.ft_world.specs.Leading.{KnowsViews}
 use Rattle.ft_world.specs.Lines.{IsTimely}
 use Rattle.ft_world.specs.Links.{inject_line, link_of}
 use Rattle.world_management.specs.Making.{client_causes, client_line, group_causes, group_line, hosts_causes, hosts_line, kind_of, made_group, new_group, next_id, stopped_from, stopped_if, style_criteria}
@@ -91,6 +94,7 @@ module _ (T : Type 0) where
     pub called : KnownCalls → calls_of_groups new.groups ≡ calls_of_groups w.groups + calls
     pub acted : T → (lines : ℕ) → HasActed w lines → HasActed new (lines + 1)
     pub made : AllMade w → AllMade new
+    pub told : KnownGroups → AllMade w → AllTrue w → AllTrue new
 
   begins_none : (w new : World) (calls : ℕ) → Keeps w new calls → Follows w new calls
   begins_none w new calls keeps = record {
@@ -102,6 +106,7 @@ module _ (T : Type 0) where
       started = more_few lines new.clients (keeps.few lines h.started);
     };
     made = keeps.made;
+    told = keeps.told;
   }
 
   follows_then : (w v new : World) (calls : ℕ) → Follows w v 0 → Keeps v new calls → Follows w new calls
@@ -114,6 +119,7 @@ module _ (T : Type 0) where
       started = b.few (lines + 1) g.started;
     };
     made = λ m. b.made (a.made m);
+    told = λ known m t. b.told known (a.made m) (a.told known m t);
   }
 
   client_starts : (w : World) (p : Placed Client) (d : Client) → IsOneOf w.clients (Some p) → ((lines : ℕ) → Few lines p.value → Few (lines + 1) d) →
@@ -127,6 +133,7 @@ module _ (T : Type 0) where
       started = all_set (Few (lines + 1)) w.clients p.place d (more_few lines w.clients h.started) (starts lines (all_get (Few lines) w.clients p.place p.value h.started is));
     };
     made = client_made w p.place p.value d is goes;
+    told = λ known m t. t;
   }
 
   -- ---- turns
@@ -216,9 +223,9 @@ module _ (T : Type 0) where
 
   -- ---- a message that comes, and a link
 
-  deliver_on : (w : World) (k : ℕ) (stop : Stop) (o : Option Message) → GoesOn w (delivered w k stop o)
-  deliver_on w k stop None = refl
-  deliver_on w k stop (Some m) = begins_none w (arrives w k stop m).world (arrives w k stop m).calls (arrives_keeps w k stop m)
+  deliver_on : (w : World) (k : ℕ) (stop : Stop) (o : Option Message) → IfSome o (λ (m : Message). slice_get w.messages (k - 1) ≡ Some m) → GoesOn w (delivered w k stop o)
+  deliver_on w k stop None at = refl
+  deliver_on w k stop (Some m) at = begins_none w (arrives w k stop m).world (arrives w k stop m).calls (arrives_keeps w k stop m at)
 
   inject_on : (w : World) (host : ℕ) (bytes : List ℕ) → GoesOn w (inject_line w host bytes)
   inject_on w host bytes =
@@ -230,7 +237,7 @@ module _ (T : Type 0) where
 
   -- who is told of a fault
   fault_keeps : (w : World) (event : FaultEvent) → Keeps w (with_fault w event) 0
-  fault_keeps w event = untouched w (with_fault w event) refl refl (λ lines f. f) (λ m. m)
+  fault_keeps w event = elsewhere w (with_fault w event) refl refl refl refl
 
   reported_keeps : (w : World) (kind : Kind) (group : GroupId) (change : Change) → Keeps w (with_reported w kind group change) 0
   reported_keeps w kind group (changes.Report host) = fault_keeps w (fault_of kind group host)
@@ -240,29 +247,28 @@ module _ (T : Type 0) where
   reported_keeps w kind group (changes.Primary host) = same w
   reported_keeps w kind group (changes.Replace host spares) = fault_keeps w (fault_of kind group host)
 
-  changed_keeps : (w : World) (host : HostNo) (g : ScriptGroup) (change : Change) (answer : GroupAnswer) → (AllMade w → IsNumber (length w.groups) g.id) →
-      Makes w (changed w host g change answer)
-  changed_keeps w host g change (answers.Changed view out) number =
-      let sent : World = all_sent w g.id out in
-      behind w sent (with_reported sent g.kind g.id change) 0 0 (group_sends w g.id out number) (reported_keeps sent g.kind g.id change)
-  changed_keeps w host g change (answers.Refused why) number = same w
-  changed_keeps w host g change (answers.Reply decision answer out) number = same w
-  changed_keeps w host g change (answers.Known version) number = same w
-  changed_keeps w host g change (answers.Applied position) number = same w
-  changed_keeps w host g change (answers.Held position) number = same w
-  changed_keeps w host g change (answers.Ignored why) number = same w
-  changed_keeps w host g change (answers.Taken from position out) number = same w
-  changed_keeps w host g change answers.LogFault number = same w
-  changed_keeps w host g change answers.Down number = same w
-  changed_keeps w host g change answers.Up number = same w
-  changed_keeps w host g change answers.NoMemory number = same w
+  changed_keeps : (w v : World) (calls : ℕ) (host : HostNo) (g : ScriptGroup) (change : Change) (answer : GroupAnswer) → MaySend w v g.id (sent_by answer) → Keeps w v calls →
+      Keeps w (changed v host g change answer).world (calls + (changed v host g change answer).calls)
+  changed_keeps w v calls host g change (answers.Changed view out) may keeps =
+      let sent : World = all_sent v g.id out in
+      behind w sent (with_reported sent g.kind g.id change) calls 0 (group_sends w v g.id out calls may keeps) (reported_keeps sent g.kind g.id change)
+  changed_keeps w v calls host g change (answers.Reply decision answer out) may keeps = none_more w v calls keeps
+  changed_keeps w v calls host g change (answers.Known version) may keeps = none_more w v calls keeps
+  changed_keeps w v calls host g change (answers.Applied position) may keeps = none_more w v calls keeps
+  changed_keeps w v calls host g change (answers.Held position) may keeps = none_more w v calls keeps
+  changed_keeps w v calls host g change (answers.Ignored why) may keeps = none_more w v calls keeps
+  changed_keeps w v calls host g change (answers.Taken from position out) may keeps = none_more w v calls keeps
+  changed_keeps w v calls host g change (answers.Refused why) may keeps = none_more w v calls keeps
+  changed_keeps w v calls host g change answers.LogFault may keeps = none_more w v calls keeps
+  changed_keeps w v calls host g change answers.Down may keeps = none_more w v calls keeps
+  changed_keeps w v calls host g change answers.Up may keeps = none_more w v calls keeps
+  changed_keeps w v calls host g change answers.NoMemory may keeps = none_more w v calls keeps
 
   changes_keep : (w : World) (p : Placed ScriptGroup) (change : Change) (host : HostNo) → IsOneOf w.groups (Some p) → Makes w (changes_members w p change host)
   changes_keep w p change host is =
       let e : Event = events.Manage change in
-      let v : World = with_event w p.place p.value e in
-      let made : Effect = changed v host p.value change (turn p.value e).answer in
-      behind w v made.world (turn p.value e).calls made.calls (group_acts w p e is) (changed_keeps v host p.value change (turn p.value e).answer (acted_made w p e is))
+      changed_keeps w (with_event w p.place p.value e) (turn p.value e).calls host p.value change (turn p.value e).answer
+      (sends_then w p e is (λ m t. tt)) (group_acts w p e is (λ m t. tt))
 
   -- a line about a host, where that is there
   on_host_on : (w : World) (host : ℕ) (e : Effect) → Makes w e → GoesOn w (on_host w host e)
@@ -283,49 +289,49 @@ module _ (T : Type 0) where
 
   -- ---- states and updates
 
-  checkpointed_keeps : (w : World) (host : HostNo) (g : ScriptGroup) (answer : GroupAnswer) → (AllMade w → IsNumber (length w.groups) g.id) → Makes w (checkpointed w host g answer)
-  checkpointed_keeps w host g (answers.Taken from position out) number = group_sends w g.id out number
-  checkpointed_keeps w host g (answers.Reply decision answer out) number = same w
-  checkpointed_keeps w host g (answers.Known version) number = same w
-  checkpointed_keeps w host g (answers.Applied position) number = same w
-  checkpointed_keeps w host g (answers.Held position) number = same w
-  checkpointed_keeps w host g (answers.Ignored why) number = same w
-  checkpointed_keeps w host g (answers.Changed view out) number = same w
-  checkpointed_keeps w host g (answers.Refused why) number = same w
-  checkpointed_keeps w host g answers.LogFault number = same w
-  checkpointed_keeps w host g answers.Down number = same w
-  checkpointed_keeps w host g answers.Up number = same w
-  checkpointed_keeps w host g answers.NoMemory number = same w
+  checkpointed_keeps : (w v : World) (calls : ℕ) (host : HostNo) (g : ScriptGroup) (answer : GroupAnswer) → MaySend w v g.id (sent_by answer) → Keeps w v calls →
+      Keeps w (checkpointed v host g answer).world (calls + (checkpointed v host g answer).calls)
+  checkpointed_keeps w v calls host g (answers.Taken from position out) may keeps = none_more w (all_sent v g.id out) calls (group_sends w v g.id out calls may keeps)
+  checkpointed_keeps w v calls host g (answers.Reply decision answer out) may keeps = none_more w v calls keeps
+  checkpointed_keeps w v calls host g (answers.Known version) may keeps = none_more w v calls keeps
+  checkpointed_keeps w v calls host g (answers.Applied position) may keeps = none_more w v calls keeps
+  checkpointed_keeps w v calls host g (answers.Held position) may keeps = none_more w v calls keeps
+  checkpointed_keeps w v calls host g (answers.Ignored why) may keeps = none_more w v calls keeps
+  checkpointed_keeps w v calls host g (answers.Changed view out) may keeps = none_more w v calls keeps
+  checkpointed_keeps w v calls host g (answers.Refused why) may keeps = none_more w v calls keeps
+  checkpointed_keeps w v calls host g answers.LogFault may keeps = none_more w v calls keeps
+  checkpointed_keeps w v calls host g answers.Down may keeps = none_more w v calls keeps
+  checkpointed_keeps w v calls host g answers.Up may keeps = none_more w v calls keeps
+  checkpointed_keeps w v calls host g answers.NoMemory may keeps = none_more w v calls keeps
 
-  updated_keeps : (w : World) (host : HostNo) (g : ScriptGroup) (answer : GroupAnswer) → (AllMade w → IsNumber (length w.groups) g.id) → Makes w (updated w host g answer)
-  updated_keeps w host g (answers.Taken from position out) number = group_sends w g.id out number
-  updated_keeps w host g (answers.Reply decision answer out) number = same w
-  updated_keeps w host g (answers.Known version) number = same w
-  updated_keeps w host g (answers.Applied position) number = same w
-  updated_keeps w host g (answers.Held position) number = same w
-  updated_keeps w host g (answers.Ignored why) number = same w
-  updated_keeps w host g (answers.Changed view out) number = same w
-  updated_keeps w host g (answers.Refused why) number = same w
-  updated_keeps w host g answers.LogFault number = same w
-  updated_keeps w host g answers.Down number = same w
-  updated_keeps w host g answers.Up number = same w
-  updated_keeps w host g answers.NoMemory number = same w
+  updated_keeps : (w v : World) (calls : ℕ) (host : HostNo) (g : ScriptGroup) (answer : GroupAnswer) → MaySend w v g.id (sent_by answer) → Keeps w v calls →
+      Keeps w (updated v host g answer).world (calls + (updated v host g answer).calls)
+  updated_keeps w v calls host g (answers.Taken from position out) may keeps = none_more w (all_sent v g.id out) calls (group_sends w v g.id out calls may keeps)
+  updated_keeps w v calls host g (answers.Reply decision answer out) may keeps = none_more w v calls keeps
+  updated_keeps w v calls host g (answers.Known version) may keeps = none_more w v calls keeps
+  updated_keeps w v calls host g (answers.Applied position) may keeps = none_more w v calls keeps
+  updated_keeps w v calls host g (answers.Held position) may keeps = none_more w v calls keeps
+  updated_keeps w v calls host g (answers.Ignored why) may keeps = none_more w v calls keeps
+  updated_keeps w v calls host g (answers.Changed view out) may keeps = none_more w v calls keeps
+  updated_keeps w v calls host g (answers.Refused why) may keeps = none_more w v calls keeps
+  updated_keeps w v calls host g answers.LogFault may keeps = none_more w v calls keeps
+  updated_keeps w v calls host g answers.Down may keeps = none_more w v calls keeps
+  updated_keeps w v calls host g answers.Up may keeps = none_more w v calls keeps
+  updated_keeps w v calls host g answers.NoMemory may keeps = none_more w v calls keeps
 
   checkpoint_keeps : (w : World) (p : Placed ScriptGroup) (o : Option HostNo) → IsOneOf w.groups (Some p) → Makes w (checkpoint_by w p o)
   checkpoint_keeps w p None is = same w
   checkpoint_keeps w p (Some host) is =
       let e : Event = checkpoint_event w host in
-      let v : World = with_event w p.place p.value e in
-      let made : Effect = checkpointed v host (acted p.value e) (turn p.value e).answer in
-      behind w v made.world (turn p.value e).calls made.calls (group_acts w p e is) (checkpointed_keeps v host (acted p.value e) (turn p.value e).answer (acted_made w p e is))
+      checkpointed_keeps w (with_event w p.place p.value e) (turn p.value e).calls host (acted p.value e) (turn p.value e).answer
+      (sends_then w p e is (λ m t. tt)) (group_acts w p e is (λ m t. tt))
 
   update_keeps : (w : World) (p : Placed ScriptGroup) (o : Option HostNo) → IsOneOf w.groups (Some p) → Makes w (update_by w p o)
   update_keeps w p None is = same w
   update_keeps w p (Some host) is =
       let e : Event = events.SendUpdate host in
-      let v : World = with_event w p.place p.value e in
-      let made : Effect = updated v host (acted p.value e) (turn p.value e).answer in
-      behind w v made.world (turn p.value e).calls made.calls (group_acts w p e is) (updated_keeps v host (acted p.value e) (turn p.value e).answer (acted_made w p e is))
+      updated_keeps w (with_event w p.place p.value e) (turn p.value e).calls host (acted p.value e) (turn p.value e).answer
+      (sends_then w p e is (λ m t. tt)) (group_acts w p e is (λ m t. tt))
 
   checkpoint_on : (w : World) (n : Naming) → IsOneNamed w.groups n → GoesOn w (checkpoint_of w n)
   checkpoint_on w NeverMade is = refl
@@ -352,13 +358,19 @@ module _ (T : Type 0) where
   pings_so n m group [] is = tt
   pings_so n m group (host ∷ hosts) is = (is, pings_so n m group hosts is)
 
+  pings_true : (gs : List ScriptGroup) (ms : List Message) (group : GroupId) (hosts : List ℕ) → AllByRecursion (IsTrue gs ms) (pings group hosts)
+  pings_true gs ms group [] = tt
+  pings_true gs ms group (host ∷ hosts) = ((tt, tt), pings_true gs ms group hosts)
+
   asks_keep : (w : World) (g : ScriptGroup) (hosts : List ℕ) → (AllMade w → IsNumber (length w.groups) g.id) → Makes w (asks w g hosts)
   asks_keep w g [] number = same w
   asks_keep w g (host ∷ hosts) number =
-      untouched w (asks w g (host ∷ hosts)).world refl refl (λ lines f. f)
-      (λ m.
-      more_messages w.groups w.clients w.messages (pings g.id (host ∷ hosts))
-      (pings_so (length w.groups) (length w.clients) g.id (host ∷ hosts) (number m)) m)
+      let ms : List Message = pings g.id (host ∷ hosts) in
+      alike w (with_messages w ms) (asks w g (host ∷ hosts)).world 0 refl refl refl refl
+      (sends_only w ms (record {
+        names = λ m. pings_so (length w.groups) (length w.clients) g.id (host ∷ hosts) (number m);
+        told = λ known m t. pings_true w.groups w.messages g.id (host ∷ hosts);
+      }))
 
   poll_on : (w : World) (n : Naming) → IsOneNamed w.groups n → GoesOn w (poll_of w n)
   poll_on w NeverMade is = refl
@@ -368,7 +380,7 @@ module _ (T : Type 0) where
       let e : Effect = polled w p.value in
       begins_none w e.world e.calls
       (as_many w e.world (0 + e.calls) e.calls (omega arith)
-      (behind w v e.world 0 e.calls (untouched w v refl refl (λ lines f. f) (λ m. m)) (asks_keep v p.value (due v p.value) (one_made w p is))))
+      (behind w v e.world 0 e.calls (elsewhere w v refl refl refl refl) (asks_keep v p.value (due v p.value) (one_made w p is))))
 
   reports_keep : (w : World) (p : Placed ScriptGroup) (hosts : List ℕ) → IsOneOf w.groups (Some p) → Makes w (reports_all w p hosts)
   unfolding reports_all
@@ -391,7 +403,7 @@ module _ (T : Type 0) where
   subscribed_keeps : (w : World) (name : List ℕ) (j : Judged) (room : Option ℕ) → Makes w (subscribes_by w name j room)
   subscribed_keeps w name (Bad place) room = same w
   subscribed_keeps w name (Good f) (Some count) = same w
-  subscribed_keeps w name (Good f) None = untouched w (with_subscribers w (subscribed w.subscribers name f)) refl refl (λ lines l. l) (λ m. m)
+  subscribed_keeps w name (Good f) None = elsewhere w (with_subscribers w (subscribed w.subscribers name f)) refl refl refl refl
 
   subscribe_on : (w : World) (name filter : List ℕ) → GoesOn w (subscribe_line w name filter)
   subscribe_on w name filter =
@@ -403,14 +415,14 @@ module _ (T : Type 0) where
   unsubscribe_on w name None = refl
   unsubscribe_on w name (Some l) =
       let new : World = with_subscribers w (unsubscribed w.subscribers name) in
-      begins_none w new 0 (untouched w new refl refl (λ lines f. f) (λ m. m))
+      begins_none w new 0 (elsewhere w new refl refl refl refl)
 
   pull_on : (w : World) (name : List ℕ) (told : Pulled) → GoesOn w (pull_by w name told)
   pull_on w name pulls.Unknown = refl
   pull_on w name pulls.Nothing = begins_none w w 0 (same w)
   pull_on w name (pulls.Event event) =
       let new : World = with_subscribers w (pulled w.subscribers name) in
-      begins_none w new 0 (untouched w new refl refl (λ lines f. f) (λ m. m))
+      begins_none w new 0 (elsewhere w new refl refl refl refl)
 
   -- one of two worlds
   either_keeps : (w : World) (b : Bool) (u v : World) → Keeps w u 0 → Keeps w v 0 → Keeps w (if b then u else v) 0
@@ -449,7 +461,7 @@ module _ (T : Type 0) where
   hosts_on : (w : World) (count : ℕ) → GoesOn w (hosts_line w count)
   hosts_on w count =
       refused_or w (first_cause (hosts_causes w count)) (goes (says (with_hosts w count) []))
-      (begins_none w (with_hosts w count) 0 (untouched w (with_hosts w count) refl refl (λ lines f. f) (λ m. m)))
+      (begins_none w (with_hosts w count) 0 (elsewhere w (with_hosts w count) refl refl refl refl))
 
   -- hosts that are down stop in a group, and call no servant
   stopped_kept : (i : ℕ) (hosts : List HostState) (g : ScriptGroup) → IsKept g → IsKept (stopped_from i hosts g)
@@ -480,16 +492,10 @@ module _ (T : Type 0) where
       one false = refl
 
   -- its number is the next
-  pushed_made : (w : World) (g : ScriptGroup) → g.id ≡ next_id w → AllMade w → AreMade (w.groups ++ g ∷ []) w.clients w.messages
-  pushed_made w g is m =
+  one_more_made : (w : World) (g : ScriptGroup) → g.id ≡ next_id w → AllMade w → AreMade (w.groups ++ g ∷ []) w.clients w.messages
+  one_more_made w g is m =
       let long = length_push w.groups g in
-      let number : g.id.0 ≡ length w.groups + 1 = ap (λ (id : GroupId). id.0) is in
-      let mine : IsNumber (length (w.groups ++ g ∷ [])) g.id = (omega (arith, number), omega (arith, number, long)) in
-      more_groups w.groups (w.groups ++ g ∷ []) w.clients w.messages (omega (arith, long))
-      (all_push (IsIn (length (w.groups ++ g ∷ []))) w.groups g
-      (all_so (IsIn (length w.groups)) (IsIn (length (w.groups ++ g ∷ []))) w.groups
-      (λ h at. number_on (length w.groups) (length (w.groups ++ g ∷ [])) h.id (omega (arith, long)) at) m.groups)
-      mine) m
+      more_groups w.groups (w.groups ++ g ∷ []) w.clients w.messages (omega (arith, long)) (order_with_next w.groups g (ap (λ (id : GroupId). id.0) is) m.ordered) m
 
   made_keeps : (w : World) (name : List ℕ) (kind : Kind) (style : Style) (members : List ℕ) (criteria : List Property) → Makes w (made_group w name kind style members criteria)
   made_keeps w name kind style members criteria =
@@ -505,7 +511,10 @@ module _ (T : Type 0) where
             omega (arith, behind, stops, opening);
         clock = refl;
         few = λ lines f. f;
-        made = pushed_made w g (stopped_id 0 w.hosts opens);
+        made = one_more_made w g (stopped_id 0 w.hosts opens);
+        told = λ known m t.
+            let knows = stopped_know known 0 w.hosts opens (opened_knows (next_id w) name kind style members) in
+            later_true known w.groups (w.groups ++ g ∷ []) (one_behind w.groups g) w.messages (all_push KnowsViews w.groups g t.groups knows) t;
       }
 
   group_on : (w : World) (name : List ℕ) (kind : KindWord) (style : Style) (members : List ℕ) → GoesOn w (group_line w name kind style members)
@@ -527,7 +536,7 @@ module _ (T : Type 0) where
 
   -- what is set, and groups that are deleted: each group stays as it is
   set_keeps : (w : World) (s : Settings) → Keeps w (with_settings w s) 0
-  set_keeps w s = untouched w (with_settings w s) refl refl (λ lines f. f) (λ m. m)
+  set_keeps w s = elsewhere w (with_settings w s) refl refl refl refl
 
   delete_on : (w : World) (n : Naming) → GoesOn w (delete_found w n)
   delete_on w NeverMade = refl
@@ -568,7 +577,7 @@ module _ (T : Type 0) where
       let long = length_push w.clients c in
       refused_or w (first_cause (client_causes w name)) (goes (says new []))
       (begins_none w new 0
-      (untouched w new refl refl (λ lines f. all_push (Few lines) w.clients c f (omega arith, omega arith))
+      (clients_change w (w.clients ++ c ∷ []) (λ lines f. all_push (Few lines) w.clients c f (omega arith, omega arith))
       (λ m.
       more_clients w.groups w.clients (w.clients ++ c ∷ []) w.messages (omega (arith, long)) (all_push (GoesBy (length w.groups)) w.clients c m.clients (tt, tt)) m)))
 
@@ -579,6 +588,7 @@ module _ (T : Type 0) where
     called = λ known. omega arith;
     acted = λ t lines h. record { clock = omega (arith, h.clock, timely t); started = more_few lines w.clients h.started };
     made = λ m. m;
+    told = λ known m t. t;
   }
 
   -- ---- every line
@@ -597,7 +607,7 @@ module _ (T : Type 0) where
   first_on w (lines.Call client group op words) timely = call_on w client (group_called w group) op words (called_one w group)
   first_on w (lines.Bind client group) timely = bind_on w (client_named w client) (group_called w group) (found_one _ w.clients) (called_one w group)
   first_on w (lines.Timeout client) timely = timeout_on w (client_named w client) (found_one _ w.clients)
-  first_on w (lines.Deliver number stop) timely = deliver_on w number stop (message_numbered w number)
+  first_on w (lines.Deliver number stop) timely = deliver_on w number stop (message_numbered w number) (message_one w number)
   first_on w (lines.Tick ticks) timely = tick_on w ticks timely
   first_on w (lines.Show name) timely = show_on w (group_called w name)
   first_on w (lines.Locations name) timely = reads_on w located (group_called w name)

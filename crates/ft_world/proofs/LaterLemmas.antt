@@ -1,5 +1,5 @@
--- Groups to which more may have happened, with others behind them, and their servant calls; and clients that have begun
--- few invocations.
+-- Groups to which more may have happened, with others behind them, what they have accepted and their servant calls; and
+-- clients that have begun few invocations.
 use Rattle.std.proofs.Common.{◌≡◌, ℕ, zero, suc, ◌+◌, ◌≤◌, arith, List, [], ◌∷◌, ◌++◌, Some, refl, sym, ap, subst, ◌∙◌}
 use Rattle.std.specs.Prelude.{slice_get, slice_set}
 use Rattle.std.specs.List.{AllByRecursion}
@@ -7,11 +7,11 @@ use Rattle.std.proofs.lemmas.List.Sums.{sum_by-cons}
 use Rattle.group_model.specs.declared.events.Event.{Event}
 use Rattle.script_clients.specs.Clients.{Client}
 use Rattle.script_groups.specs.Groups.{ScriptGroup, acted, all_acted, servant_calls, turn, with_more}
-use Rattle.script_groups.specs.Laws.{CallsGoOn, FailuresChangeNothing, NoneCalledYet}
+use Rattle.script_groups.specs.Laws.{CallsGoOn, FailuresChangeNothing, GroupsGrow, NoneCalledYet, RepliesStay}
 use Rattle.script_groups.specs.Lists.{same_some}
 use Rattle.script_groups.specs.declared.happenings.Happening.{Happening}
 use Rattle.script_groups.specs.declared.happenings.Happening.TheVariants as happenings
-use Rattle.ft_world.specs.Laws.{AllLater, HasMore, calls_of_groups}
+use Rattle.ft_world.specs.Laws.{AllLater, HasMore, KeepsEntries, calls_of_groups}
 
 -- ---- clients
 
@@ -70,6 +70,25 @@ each_later e (g ∷ gs) = (one_more g (happenings.Event e), each_later e gs)
 pub one_behind : (gs : List ScriptGroup) (g : ScriptGroup) → AllLater HasMore gs (gs ++ g ∷ [])
 one_behind [] g = tt
 one_behind (x ∷ gs) g = (no_more x, one_behind gs g)
+
+-- each is still at its place
+pub later_at : (R : ScriptGroup → ScriptGroup → Type 0) (gs hs : List ScriptGroup) (i : ℕ) (g : ScriptGroup) → AllLater R gs hs → slice_get gs i ≡ Some g →
+    (h : ScriptGroup) × (slice_get hs i ≡ Some h) × R g h
+later_at R [] hs i g all at = absurd cc
+later_at R (x ∷ gs) [] i g all at = absurd all
+later_at R (x ∷ gs) (h ∷ hs) zero g all at = (h, refl, subst (λ (y : ScriptGroup). R y h) (same_some x g at) all.0)
+later_at R (x ∷ gs) (h ∷ hs) (suc i) g all at = later_at R gs hs i g all.1 at
+
+-- ---- what they have accepted
+
+module _ (grow : GroupsGrow) (stay : RepliesStay) where
+  keeps_with : (g : ScriptGroup) (more : List Happening) → KeepsEntries g (with_more g more)
+  keeps_with g more =
+      let grown = grow g more in
+      record { id = refl; more = grown.more; journal = grown.journal; replies = stay g more }
+
+  pub keeps_entries : (g h : ScriptGroup) → HasMore g h → KeepsEntries g h
+  keeps_entries g h later = subst (KeepsEntries g) (sym later.is) (keeps_with g later.more)
 
 -- ---- their servant calls
 

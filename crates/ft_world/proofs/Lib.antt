@@ -9,9 +9,14 @@ pub mod ReplyLemmas
 pub mod PortLemmas
 pub mod LaterLemmas
 pub mod MadeLemmas
+pub mod TruthLemmas
 pub mod KeepingLemmas
 pub mod ComingLemmas
 pub mod KeptLemmas
 pub mod JournalLemmas
+pub mod DecidedLemmas
 pub mod ReplyOnceLemmas
+pub mod AppendLemmas
+pub mod LeadLemmas
+pub mod LinkTellingLemmas
 pub mod AnswerLemmas

@@ -1,6 +1,8 @@
--- The groups and clients that messages name, and the groups of the references that clients go by: each was made.
-use Rattle.std.proofs.Common.{◌≡◌, ℕ, zero, suc, ◌+◌, ◌<◌, ◌≤◌, arith, Bool, true, false, cond, List, [], ◌∷◌, ◌++◌, length, Option, Some, None, refl, ap}
-use Rattle.std.specs.Prelude.{◌||◌, if◌then◌else◌, nat_lt, slice_set, IfSome}
+-- The groups and clients that messages name, and the groups of the references that clients go by: each was made, and the
+-- groups stand by their numbers.
+use Rattle.std.proofs.Common.{◌≡◌, ℕ, zero, suc, ◌+◌, ◌<◌, ◌≤◌, arith, Bool, true, false, cond, List, [], ◌∷◌, ◌++◌, length, Option, Some, None, refl, sym, ap, ◌∙◌}
+use Rattle.std.proofs.lemmas.Option.{slice_get_within}
+use Rattle.std.specs.Prelude.{◌||◌, if◌then◌else◌, nat_lt, slice_get, slice_set, IfSome}
 use Rattle.std.specs.List.{AllByRecursion, filter, find}
 use Rattle.std.specs.Option.{option_to_list, unwrap_or}
 use Rattle.client_retry.specs.declared.answers.Act.{Act}
@@ -24,10 +26,13 @@ use Rattle.script_clients.specs.declared.answers.Told.{Told}
 use Rattle.script_clients.specs.declared.answers.Told.TheVariants as tolds
 use Rattle.script_clients.specs.Clients.{Client, acting, after_news, binding, going_on, is_of, last_reference, starting, taking, told_of}
 use Rattle.script_groups.specs.Groups.{ScriptGroup}
-use Rattle.script_groups.specs.Lists.{all_push}
+use Rattle.script_groups.specs.Lists.{all_push, same_some, some_at}
 use Rattle.script_world.specs.declared.messages.Message.{Message}
 use Rattle.script_world.specs.declared.messages.Message.TheVariants as messages
+use Rattle.script_world.specs.Sound.{AreInOrder}
 use Rattle.script_world.specs.World.{World}
+use Rattle.ft_world.specs.Laws.{AllLater, HasMore}
+use Rattle.ft_world.proofs.LaterLemmas.{later_at}
 
 -- ---- lists
 
@@ -231,13 +236,39 @@ names_on n k m l (messages.Carried group out) groups clients names = number_on n
 names_on n k m l (messages.Ping group host) groups clients names = number_on n k group groups names
 names_on n k m l (messages.Pong group host) groups clients names = number_on n k group groups names
 
+-- ---- groups in order
+
+-- each has the number of its place
+pub at_its_number : (gs : List ScriptGroup) (i : ℕ) (g : ScriptGroup) → AreInOrder gs → slice_get gs i ≡ Some g → IsNumber (length gs) g.id
+at_its_number gs i g ordered at =
+    let number = ordered i g at in
+    let within = slice_get_within gs i g at in (omega (arith, number), omega (arith, number, within))
+
+pub order_stays : (gs hs : List ScriptGroup) → AllLater HasMore gs hs → length hs ≡ length gs → AreInOrder gs → AreInOrder hs
+order_stays gs hs later long ordered i h at =
+    let within = slice_get_within hs i h at in
+    let was = some_at gs i (omega (arith, within, long)) in
+    let now = later_at HasMore gs hs i was.0 later was.1 in
+    let same : h ≡ now.0 = same_some h now.0 (sym at ∙ now.1) in
+    ap (λ (x : ScriptGroup). x.id.0) (same ∙ now.2.is) ∙ ordered i was.0 was.1
+
+-- the next number is that of one more
+last_in_order : (gs : List ScriptGroup) (g : ScriptGroup) (first : ℕ) → ((i : ℕ) (x : ScriptGroup) → slice_get gs i ≡ Some x → x.id.0 ≡ first + i + 1) →
+    g.id.0 ≡ first + length gs + 1 → (i : ℕ) (x : ScriptGroup) → slice_get (gs ++ g ∷ []) i ≡ Some x → x.id.0 ≡ first + i + 1
+last_in_order [] g first so last zero x at = ap (λ (y : ScriptGroup). y.id.0) (sym (same_some g x at)) ∙ last
+last_in_order [] g first so last (suc i) x at = absurd cc
+last_in_order (y ∷ gs) g first so last zero x at = so zero x at
+last_in_order (y ∷ gs) g first so last (suc i) x at =
+    let there = last_in_order gs g (first + 1) (λ k z there. (let is = so (suc k) z there in omega (arith, is))) (omega (arith, last)) i x at in omega (arith, there)
+
+pub order_with_next : (gs : List ScriptGroup) (g : ScriptGroup) → g.id.0 ≡ length gs + 1 → AreInOrder gs → AreInOrder (gs ++ g ∷ [])
+order_with_next gs g next ordered i x at =
+    let is = last_in_order gs g 0 (λ k z there. (let was = ordered k z there in omega (arith, was))) (omega (arith, next)) i x at in omega (arith, is)
+
 -- ---- a world
 
-abbrev pub IsIn : ℕ → ScriptGroup → Type 0
-IsIn n g = IsNumber n g.id
-
 pub record AreMade (gs : List ScriptGroup) (cs : List Client) (ms : List Message) : Type 0 where
-  pub groups : AllByRecursion (IsIn (length gs)) gs
+  pub ordered : AreInOrder gs
   pub clients : AllByRecursion (GoesBy (length gs)) cs
   pub messages : AllByRecursion (Names (length gs) (length cs)) ms
 
@@ -246,27 +277,26 @@ AllMade w = AreMade w.groups w.clients w.messages
 
 -- more groups, and more clients
 grown : (gs hs : List ScriptGroup) (cs ds : List Client) (ms : List Message) → length gs ≤ length hs → length cs ≤ length ds →
-    AllByRecursion (IsIn (length hs)) hs → AllByRecursion (GoesBy (length hs)) ds → AreMade gs cs ms → AreMade hs ds ms
-grown gs hs cs ds ms more also groups clients a = record {
-  groups = groups;
+    AreInOrder hs → AllByRecursion (GoesBy (length hs)) ds → AreMade gs cs ms → AreMade hs ds ms
+grown gs hs cs ds ms more also ordered clients a = record {
+  ordered = ordered;
   clients = clients;
   messages = all_so (Names (length gs) (length cs)) (Names (length hs) (length ds)) ms (λ m names. names_on (length gs) (length hs) (length cs) (length ds) m more also names) a.messages;
 }
 
-pub more_groups : (gs hs : List ScriptGroup) (cs : List Client) (ms : List Message) → length gs ≤ length hs → AllByRecursion (IsIn (length hs)) hs →
-    AreMade gs cs ms → AreMade hs cs ms
-more_groups gs hs cs ms more groups a =
-    grown gs hs cs cs ms more (omega arith) groups
+pub more_groups : (gs hs : List ScriptGroup) (cs : List Client) (ms : List Message) → length gs ≤ length hs → AreInOrder hs → AreMade gs cs ms → AreMade hs cs ms
+more_groups gs hs cs ms more ordered a =
+    grown gs hs cs cs ms more (omega arith) ordered
     (all_so (GoesBy (length gs)) (GoesBy (length hs)) cs (λ c by. goes_on (length gs) (length hs) c more by) a.clients) a
 
 pub more_clients : (gs : List ScriptGroup) (cs ds : List Client) (ms : List Message) → length cs ≤ length ds → AllByRecursion (GoesBy (length gs)) ds →
     AreMade gs cs ms → AreMade gs ds ms
-more_clients gs cs ds ms more clients a = grown gs gs cs ds ms (omega arith) more a.groups clients a
+more_clients gs cs ds ms more clients a = grown gs gs cs ds ms (omega arith) more a.ordered clients a
 
 pub more_messages : (gs : List ScriptGroup) (cs : List Client) (ms more : List Message) → AllByRecursion (Names (length gs) (length cs)) more →
     AreMade gs cs ms → AreMade gs cs (ms ++ more)
 more_messages gs cs ms more names a = record {
-  groups = a.groups;
+  ordered = a.ordered;
   clients = a.clients;
   messages = all_both (Names (length gs) (length cs)) ms more a.messages names;
 }

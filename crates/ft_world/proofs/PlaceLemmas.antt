@@ -1,9 +1,11 @@
--- Elements of lists by their places, and groups by what they are named.
+-- Elements of lists by their places, messages by their numbers, and groups by what they are named.
 use Rattle.std.proofs.Common.{◌≡◌, ℕ, suc, ◌+◌, arith, Bool, true, false, List, [], ◌∷◌, Option, Some, None, refl, sym, ap, subst}
-use Rattle.std.specs.Prelude.{◌==◌, ◌-◌, if◌then◌else◌, option_map, slice_get}
+use Rattle.std.proofs.lemmas.Bool.{eqb-false}
+use Rattle.std.specs.Prelude.{◌==◌, ◌-◌, if◌then◌else◌, option_map, slice_get, IfSome}
 use Rattle.script_groups.specs.Groups.{ScriptGroup, Placed, found, group_named, group_numbered, placed}
 use Rattle.script_groups.specs.Lists.{same_some}
-use Rattle.script_world.specs.World.{World, is_deleted}
+use Rattle.script_world.specs.World.{World, is_deleted, message_numbered}
+use Rattle.script_world.specs.declared.messages.Message.{Message}
 use Rattle.world_turns.specs.Naming.{Naming, NeverMade, Deleted, There, group_called, group_with_number, naming_of, there_only}
 
 -- it stands at its place
@@ -60,6 +62,34 @@ called_one w name = naming_one w (group_named w.groups name) (found_one _ w.grou
 
 pub with_number_one : (w : World) (number : ℕ) → IsOneNamed w.groups (group_with_number w number)
 with_number_one w number = naming_one w (group_numbered w.groups number) (numbered_one w.groups number)
+
+-- by its number: that is one more than its place
+abbrev pub IsAtNumber : ℕ → Naming → Type 0
+IsAtNumber number NeverMade = Unit {0}
+IsAtNumber number (Deleted p) = p.place + 1 ≡ number
+IsAtNumber number (There p) = p.place + 1 ≡ number
+
+pub number_place : (w : World) (number : ℕ) → IsAtNumber number (group_with_number w number)
+unfolding naming_of
+number_place w number = choose (number == 0) refl (slice_get w.groups (number - 1))
+  where
+    go : (g : ScriptGroup) (b : Bool) → number - 1 + 1 ≡ number → IsAtNumber number (if b then Deleted (placed (number - 1) g) else There (placed (number - 1) g))
+    go g true is = is
+    go g false is = is
+
+    choose : (b : Bool) → (number == 0) ≡ b → (o : Option ScriptGroup) → IsAtNumber number (naming_of w (if b then None else option_map (placed (number - 1)) o))
+    choose true e o = tt
+    choose false e None = tt
+    choose false e (Some g) = let some = eqb-false number 0 e in go g (is_deleted w g) (omega (arith, some))
+
+-- a message stands at its place
+pub message_one : (w : World) (k : ℕ) → IfSome (message_numbered w k) (λ (m : Message). slice_get w.messages (k - 1) ≡ Some m)
+message_one w k = choose (k == 0) (slice_get w.messages (k - 1)) refl
+  where
+    choose : (b : Bool) (o : Option Message) → slice_get w.messages (k - 1) ≡ o → IfSome (if b then None else o) (λ (m : Message). slice_get w.messages (k - 1) ≡ Some m)
+    choose true o at = tt
+    choose false None at = tt
+    choose false (Some m) at = at
 
 pub there_one : (gs : List ScriptGroup) (n : Naming) → IsOneNamed gs n → IsOneOf gs (there_only n)
 there_one gs NeverMade is = tt

@@ -9,5 +9,8 @@ pub mod Lines
 pub mod Acts
 pub mod Serving
 pub mod Laws
+pub mod Messages
 pub mod Replying
+pub mod Leading
+pub mod LinkTelling
 pub mod DeadArms

@@ -1,24 +1,17 @@
--- What is said of a request that comes to a group of a world: each acceptance has one reply, and who accepts.
-use Rattle.std.specs.Prelude.{◌≡◌, ℕ, List, [], ◌∷◌, slice_get, Option, Some, None}
+-- What is said of a request that comes to a group of a world: each acceptance has one reply.
+use Rattle.std.specs.Prelude.{◌≡◌, ℕ, List, ◌∷◌, slice_get, Option, Some, None}
 use Rattle.ft_base.specs.declared.decisions.Decision.{Decision}
 use Rattle.ft_base.specs.declared.decisions.Decision.TheVariants as decisions
 use Rattle.ft_base.specs.declared.decisions.Stop.{Stop}
 use Rattle.ft_base.specs.declared.numbers.HostNo.{HostNo}
-use Rattle.ft_base.specs.declared.numbers.Tick.{Tick}
 use Rattle.ft_base.specs.declared.requests.Par.{Par}
 use Rattle.ft_report.specs.declared.outcomes.ReportOutcome.{ReportOutcome}
 use Rattle.ft_report.specs.declared.reports.ReportLine.{ReportLine}
 use Rattle.ft_report.specs.declared.reports.ReportLine.TheVariants as reports
 use Rattle.group_model.specs.declared.asking.Asked.{Asked}
-use Rattle.group_model.specs.declared.events.Event.TheVariants as events
-use Rattle.group_model.specs.declared.events.GroupAnswer.TheVariants as group_answers
-use Rattle.group_model.specs.declared.events.Out.{Out}
-use Rattle.group_model.specs.Appending.{MayAppend}
 use Rattle.group_model.specs.Replying.{IsDecidedAs}
-use Rattle.script_groups.specs.Acting.{IsSoundGroup}
-use Rattle.script_groups.specs.Groups.{ScriptGroup, Placed, acted, common_of, group_of, machine_of, reply_of, turn}
+use Rattle.script_groups.specs.Groups.{ScriptGroup, Placed, acted, common_of, machine_of, reply_of}
 use Rattle.script_world.specs.World.{World}
-use Rattle.sys_faults.specs.declared.answers.Answer.{Answer}
 use Rattle.world_turns.specs.Turns.{Turn, Goes, Refused}
 use Rattle.ft_world.specs.Delivering.{deliver_line}
 use Rattle.shown_ends.specs.Ends.{shown_outcome}
@@ -60,23 +53,15 @@ TellsDecided gs name (decisions.Append i) rest = TellsReply gs name i rest
 TellsDecided gs name (decisions.Repeat i) rest = TellsReply gs name i rest
 TellsDecided gs name other rest = Unit {0}
 
-abbrev pub TellsOnce : List ScriptGroup → List ReportLine → Type 0
-TellsOnce gs (reports.At host name decision ∷ rest) = TellsDecided gs name decision rest
-TellsOnce gs other = Unit {0}
+-- what holds where a report begins with a host's decision in a group: of these three, and of the lines behind it
+abbrev pub IfDecided : (HostNo → List ℕ → Decision → List ReportLine → Type 0) → List ReportLine → Type 0
+IfDecided P (reports.At host name decision ∷ rest) = P host name decision rest
+IfDecided P other = Unit {0}
 
 abbrev pub TurnTellsOnce : Turn → Type 0
-TurnTellsOnce (Goes next report calls) = TellsOnce next.groups report
+TurnTellsOnce (Goes next report calls) = IfDecided (λ host name decision rest. TellsDecided next.groups name decision rest) report
 TurnTellsOnce (Refused why calls) = Unit {0}
 
 -- Where a delivery prints `append I` or `repeat I`, the reply below it is entry I's, unless the host stopped.
 abbrev pub DeliveriesTellOnce : Type 0
 DeliveriesTellOnce = (w : World) (k : ℕ) (stop : Stop) → TurnTellsOnce (deliver_line w k stop)
-
--- ---- who appends
-
--- A host that is up and knows the newest view, as a member, and in a passive group as the primary. (Each group of a `World` is
--- sound, by its type.)
-abbrev pub OnlyLeadersAppend : Type 0
-OnlyLeadersAppend = (g : ScriptGroup) (host : HostNo) (clock : Tick) (asked : Asked) (stop : Stop) (i : ℕ) (answer : Option Answer) (out : List Out) →
-    IsSoundGroup g → (turn g (events.Request host clock asked stop)).answer ≡ group_answers.Reply (decisions.Append i) answer out →
-    MayAppend (group_of g) host.0 asked

@@ -1,9 +1,14 @@
 //! Laws over runs of scripts. The functions do nothing: their contracts are facts.
 ghost use Rattle.ft_world.specs.DeadArms.{AnswersFit, ScriptsNameMade};
 ghost use Rattle.ft_world.specs.Laws.{DeposedDoNothing, ScriptsAcceptOnce, ScriptsKeepEntries, ServantsAreCalled};
-ghost use Rattle.ft_world.specs.Replying.{DeliveriesTellOnce, EntriesAreReplied, OnlyLeadersAppend};
+ghost use Rattle.ft_world.specs.Leading.{DeliveriesAppendAtLeaders, RequestsAppendAtLeaders, ScriptsKnowTheirViews};
+ghost use Rattle.ft_world.specs.LinkTelling.{InjectionsAppendAtLeaders, InjectionsTellOnce, LinksTellOnce};
+ghost use Rattle.ft_world.specs.Messages.{ScriptsReplyOnce};
+ghost use Rattle.ft_world.specs.Replying.{DeliveriesTellOnce, EntriesAreReplied};
 
-use group_model::{deposed_append_nothing, entries_are_replied, leaders_append};
+use group_model::{
+    deposed_append_nothing, entries_are_replied, leaders_append, only_views_are_known,
+};
 use script_groups::{calls_are_counted, failures_come_once, groups_go_on, groups_keep_entries};
 
 /// At most once: in every world that lines of a script make, each request with a key in each group's journal was
@@ -33,10 +38,55 @@ pub fn requests_are_replied_once()
     groups_go_on();
 }
 
-/// Who appends: a host that is up and knows its group's newest view, as a member, and in a passive group as the primary.
-pub fn only_leaders_append()
-    ensures { OnlyLeadersAppend }
+/// And over links: in any world, each message of a link adds its own part to what is printed. Where that is `append I` or
+/// `repeat I`, the Reply whose bytes follow, if one is sent, tells entry I's one reply. So it is of each link that a script
+/// injects; and a host that is down prints that it lost the link, and no more.
+pub fn links_are_replied_once()
+    ensures served { LinksTellOnce }
+    ensures injected { InjectionsTellOnce }
 {
+    requests_are_replied_once();
+}
+
+/// In every world that lines of a script make, each reply with an outcome that was ever sent answers a request that was sent,
+/// and its outcome is the one reply of that request's entry in the journal of its group, as the group is now.
+pub fn replies_are_of_entries()
+    ensures { ScriptsReplyOnce }
+{
+    requests_are_replied_once();
+    groups_go_on();
+    groups_keep_entries();
+    failures_come_once();
+    only_views_are_known();
+}
+
+/// Who appends, in every world that lines of a script make: a host that is up and knows its group's newest view, as a
+/// member, and in a passive group as the primary. So a delivery prints it, and so it is of each request that comes. No host
+/// knows a view that its group hasn't had.
+pub fn only_leaders_append()
+    ensures known { ScriptsKnowTheirViews }
+    ensures asked { RequestsAppendAtLeaders }
+    ensures delivered { DeliveriesAppendAtLeaders }
+{
+    requests_are_replied_once();
+    groups_go_on();
+    groups_keep_entries();
+    failures_come_once();
+    only_views_are_known();
+    leaders_append();
+}
+
+/// Nor does anyone else append what comes over a link: where a link that is injected in a world of a script prints
+/// `append I`, the host was up and knew the newest view of the request's group, as a member, and in a passive group as the
+/// primary, when that request came.
+pub fn links_append_at_leaders()
+    ensures { InjectionsAppendAtLeaders }
+{
+    requests_are_replied_once();
+    groups_go_on();
+    groups_keep_entries();
+    failures_come_once();
+    only_views_are_known();
     leaders_append();
 }
 

@@ -37,7 +37,8 @@ mod retrying;
 
 pub use acts::act;
 pub use laws::{
-    deposed_do_nothing, only_leaders_append, requests_are_replied_once, scripts_accept_once,
-    scripts_keep_entries, scripts_take_no_dead_arm, servants_are_called,
+    deposed_do_nothing, links_append_at_leaders, links_are_replied_once, only_leaders_append,
+    replies_are_of_entries, requests_are_replied_once, scripts_accept_once, scripts_keep_entries,
+    scripts_take_no_dead_arm, servants_are_called,
 };
 pub use ports::{Printed, WorldPass, WorldPort};

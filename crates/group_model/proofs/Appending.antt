@@ -36,7 +36,7 @@ use Rattle.group_model.specs.Transfers.{brought_to, ignoring, holding, ordered, 
 use Rattle.group_model.specs.Changes.{ChangeRow, changed_or, first_fault, change_rows}
 use Rattle.group_model.specs.Counting.{asks_journal}
 use Rattle.group_model.specs.Events.{if_up, turn, turn_of, host_of, is_log_fault, is_fault_of_log, shows_fault}
-use Rattle.group_model.specs.Agreeing.{IsSound}
+use Rattle.group_model.specs.Versions.{KnowsItsViews}
 use Rattle.group_model.specs.Appending.{MayAppend, IsAcceptedAt}
 use Rattle.group_model.specs.Lean.{Passes}
 use Rattle.group_model.specs.Steps.{LeadsTo, IsStep}
@@ -258,9 +258,9 @@ unless_bad_appends P None c h t leads = leads
 unless_bad_appends P (Some id) c h t leads = λ a. absurd a
 
 pub only_leaders : (m : Machine) (g : Group) (fails : Bool) (host : HostNo) (clock : Tick) (asked : Asked) (stop : Stop)
-    (i : ℕ) (answer : Option Answer) (out : List Out) → IsSound m g →
+    (i : ℕ) (answer : Option Answer) (out : List Out) → KnowsItsViews g →
     (turn_of m g (events.Request host clock asked stop) fails).answer ≡ answers.Reply (decisions.Append i) answer out → MayAppend g host.0 asked
-only_leaders m g fails host clock asked stop i answer out sound told = go h.up refl appends where
+only_leaders m g fails host clock asked stop i answer out knows told = go h.up refl appends where
   c : Common
   c = g.common
 
@@ -280,7 +280,7 @@ only_leaders m g fails host clock asked stop i answer out sound told = go h.up r
   here = unless_bad_appends (LeadsHere c host.0 known) asked.bad_context c h (asked_at m c (record h { known = known }) host.0 clock.0 asked stop fails)
       (served_or_appends m c (record h { known = known }) host.0 clock.0 known stop fails (request_in m c host.0 known asked)
       (request_is (λ x. asks_journal x.decision ≡ false) m c host.0 known asked (λ d a e t. e) (λ d a e t. e))
-      (λ q is. leads_here m c host.0 known asked q (if_known (looks_up h.known asked.version) h.known (newest c) (sound.hosts host.0).known.0).1 is))
+      (λ q is. leads_here m c host.0 known asked q (if_known (looks_up h.known asked.version) h.known (newest c) (knows.known host.0)).1 is))
 
   go : (b : Bool) → h.up ≡ b → Appends (if b then whole else unchanged c h answers.Down).answer → MayAppend g host.0 asked
   go true up a = let is = here a in record { up = up; known = is.newest_known; member = is.member; leads = is.leads }

@@ -18,6 +18,7 @@ pub mod Answering
 pub mod Replying
 pub mod Reopening
 pub mod Stepping
+pub mod Versions
 pub mod Appending
 pub mod Amounts
 pub mod Taking

@@ -22,9 +22,9 @@ use Rattle.group_model.specs.Plain.{Group}
 use Rattle.group_model.specs.Views.{newest, newest_view}
 use Rattle.group_model.specs.Decisions.{known_then}
 use Rattle.group_model.specs.Events.{turn_of, shows_fault}
-use Rattle.group_model.specs.Agreeing.{IsSound}
 use Rattle.group_model.specs.Lean.{Passes}
 use Rattle.group_model.specs.Steps.{IsStep}
+use Rattle.group_model.specs.Versions.{KnowsItsViews}
 
 -- ---- who appends
 
@@ -36,10 +36,10 @@ pub record MayAppend (g : Group) (host : ℕ) (asked : Asked) : Type 0 where
   pub member : is_member host (newest_view g.common).members ≡ true
   pub leads : is_passive g.common.style ≡ true → is_led_by (newest_view g.common) host ≡ true
 
--- A request is appended at such a host alone.
+-- A request is appended at such a host alone, where none knows a version that the group hasn't had.
 abbrev pub OnlyLeadersAppend : Type 0
 OnlyLeadersAppend = (m : Machine) (g : Group) (fails : Bool) (host : HostNo) (clock : Tick) (asked : Asked) (stop : Stop)
-    (i : ℕ) (answer : Option Answer) (out : List Out) → IsSound m g →
+    (i : ℕ) (answer : Option Answer) (out : List Out) → KnowsItsViews g →
     (turn_of m g (events.Request host clock asked stop) fails).answer ≡ answers.Reply (decisions.Append i) answer out → MayAppend g host.0 asked
 
 -- it was appended at this place, or memory was wanted

@@ -18,6 +18,7 @@ pub mod Sending
 pub mod Amounts
 pub mod Takers
 pub mod Steps
+pub mod Versions
 pub mod Appending
 pub mod Answering
 pub mod Replying

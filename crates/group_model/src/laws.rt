@@ -9,6 +9,7 @@ ghost use Rattle.group_model.specs.Replying.{EntriesAreReplied};
 ghost use Rattle.group_model.specs.Sending.{WhatIsSentAgrees};
 ghost use Rattle.group_model.specs.Steps.{LeanGrows, LeanKeepsAgreement, LeanStaysSound, StepsGrow, StepsKeepAgreement, StepsStaySound};
 ghost use Rattle.group_model.specs.Takers.{TakersAreInside, TakersMayTake, UpdatersMaySend};
+ghost use Rattle.group_model.specs.Versions.{OnlyViewsAreKnown, OnlyViewsAreSent};
 
 use ft_base::{canonical_forms_are_of_values, replies_are_given, requests_join};
 
@@ -52,6 +53,12 @@ pub fn agreement_lasts()
 /// What a host knows of a group's views never falls while the host is up.
 pub fn knowledge_never_falls()
     ensures { KnowledgeNeverFalls }
+{}
+
+/// A host knows, and is told of, no view that its group hasn't had, over all events that tell of none.
+pub fn only_views_are_known()
+    ensures known { OnlyViewsAreKnown }
+    ensures sent { OnlyViewsAreSent }
 {}
 
 /// Where what has run isn't past the journal, an event calls the servant as often as it runs an accepted entry, catches
