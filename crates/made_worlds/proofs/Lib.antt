@@ -1,0 +1,12 @@
+pub mod Replies
+pub mod Bank
+pub mod Turns
+pub mod Happened
+pub mod Worlds
+pub mod Callers
+pub mod Amounts
+pub mod Calls
+pub mod Rounds
+pub mod Transfers
+pub mod Opening
+pub mod Ending
