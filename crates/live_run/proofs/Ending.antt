@@ -12,7 +12,7 @@ use Rattle.live_hosts.specs.Posts.{HasEnded, HasTurnsOf, Post, Rises}
 use Rattle.live_monitor.specs.declared.states.Kill.{Kill}
 use Rattle.live_monitor.specs.Monitored.{Errand, GroupTurn, IsEnough, IsMonitored}
 use Rattle.live_group.specs.Closing.{IsClosed}
-use Rattle.live_run.specs.Runs.{IsGroupRun, account, kill_of, opening_account}
+use Rattle.live_run.specs.Runs.{IsGroupRun, account, opening_account}
 use Rattle.live_run.specs.Serving.{HasWatched, HaveServed, IsOpen}
 
 -- ---- the numbers of the hosts' passes

@@ -1,9 +1,7 @@
 -- What is left once all hosts and clients have ended.
-use Rattle.std.proofs.Common.{◌≡◌, ◌∙◌, ℕ, Bool, false, true, List, [], ◌∷◌, ◌++◌, Option, Some, None, Result, Ok, Err, Vec, Global, length, map, refl, sym, ap, subst, append-nil, inl, true≢false}
-use Rattle.std.specs.Prelude.{All, ◌==◌, ◌<◌, IfOk}
-use Rattle.std.specs.List.{AllByRecursion, range_with_len}
-use Rattle.std.proofs.lemmas.List.Elements.{All-from_recursion, filter-append}
-use Rattle.ft_base.specs.declared.limits.TheConstants.{HOST_LIMIT}
+use Rattle.std.proofs.Common.{◌≡◌, ◌∙◌, ℕ, false, List, [], ◌++◌, Option, Some, None, Result, Ok, Err, Vec, Global, refl, sym, ap, subst, append-nil, inl, true≢false}
+use Rattle.std.specs.Prelude.{◌==◌, IfOk}
+use Rattle.std.proofs.lemmas.List.Elements.{filter-append}
 use Rattle.ft_base.specs.declared.memory.NoMemory.{NoMemory}
 use Rattle.ft_base.specs.declared.views.View.{View}
 use Rattle.outside_links.specs.Lending.{Target}
@@ -16,14 +14,14 @@ use Rattle.shared_group.specs.Turns.{GroupPass, SharedValue}
 use Rattle.client_calls.specs.declared.answers.Told.{Told}
 use Rattle.live_words.specs.declared.asking.LiveWords.{LiveWords}
 use Rattle.live_clients.specs.Clients.{AreTold, Task, tasks_from}
-use Rattle.live_hosts.specs.Posts.{HandsOut, HasEnded, HasSeenMore, Post, Rises}
+use Rattle.live_hosts.specs.Posts.{HasSeenMore}
 use Rattle.live_monitor.specs.declared.states.Kill.{Kill}
 use Rattle.live_monitor.specs.Monitored.{AreMonitors, Errand, GroupTurn, IsMonitored, NoneFinds}
 use Rattle.live_group.specs.Opening.{first_hosts}
 use Rattle.live_group.specs.declared.opening.TheConstants.{GROUP}
 use Rattle.live_run.specs.declared.runs.RunFault.{RunFault}
 use Rattle.live_run.specs.Runs.{first_reference, kill_of, type_name}
-use Rattle.live_run.specs.Serving.{HasWatched, HaveServed}
+use Rattle.live_run.specs.Serving.{HasWatched}
 
 -- ---- the monitor
 

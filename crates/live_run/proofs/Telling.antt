@@ -1,5 +1,5 @@
 -- What the clients of a run were told.
-use Rattle.std.proofs.Common.{◌≡◌, ◌∙◌, ℕ, ◌+◌, zero, suc, List, [], ◌∷◌, map, length, Option, Some, None, refl, sym, ap, subst, arith}
+use Rattle.std.proofs.Common.{◌≡◌, ◌∙◌, ℕ, ◌+◌, zero, suc, List, [], ◌∷◌, map, length, Option, Some, None, refl, ap, subst, arith}
 use Rattle.std.specs.Prelude.{slice_get, IfSome, option_map}
 use Rattle.std.specs.List.{AllByRecursion}
 use Rattle.std.proofs.lemmas.Option.{slice_get-map}
@@ -10,7 +10,7 @@ use Rattle.client_calls.specs.Calls.{HasRisen, IsTold}
 use Rattle.live_words.specs.declared.asking.LiveWords.{LiveWords}
 use Rattle.live_clients.specs.Clients.{AreNewCallers, AreTold, IsToldBy, Task, all_faults, client_name, dialing_of, task, tasks_from}
 use Rattle.live_net.specs.Callers.{AreCallers, HaveLinksInOrder, IsUnused, links_at}
-use Rattle.live_run.specs.Runs.{AreClientsTold, IsClientTold, Network, first_reference}
+use Rattle.live_run.specs.Runs.{AreClientsTold, Network, first_reference}
 
 in_order : HaveLinksInOrder → (told now : Option (List (List (List ℕ)))) (links : List (Option (List (List ℕ)))) (place : ℕ) (own : Option (List (List ℕ)))
     → AreCallers told now links → slice_get links place ≡ Some own → IfSome told (λ all. own ≡ links_at (Some all) place)

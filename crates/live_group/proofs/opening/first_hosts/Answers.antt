@@ -1,4 +1,4 @@
-use Rattle.std.proofs.Common.{◌≡◌, ◌∙◌, ℕ, ◌++◌, List, [], ◌∷◌, ap, subst, sym, arith, false, length}
+use Rattle.std.proofs.Common.{◌∙◌, ℕ, ◌++◌, List, [], ◌∷◌, ap, arith, length}
 use Rattle.ft_base.specs.Members.{is_member}
 use Rattle.live_group.proofs.Hosts.{as_many, next_is_new, one_host_more}
 use Rattle.live_group.proofs.opening.first_hosts.Goals as goal

@@ -1,10 +1,10 @@
-use Rattle.std.proofs.Common.{◌≡◌, ◌∙◌, Result, ap, sym}
+use Rattle.std.proofs.Common.{◌∙◌, ap}
 use Rattle.std.specs.Arc.{arc_value}
 use Rattle.std.proofs.lemmas.Result.{IfOk-weaker}
 use Rattle.live_run.specs.declared.runs.RunEnd.{RunEnd}
 use Rattle.live_run.specs.Faults.{fault_in}
 use Rattle.live_run.proofs.Counting.{run_binds, run_starts}
-use Rattle.live_run.proofs.Running.{ready_as, run_done}
+use Rattle.live_run.proofs.Running.{run_done}
 use Rattle.live_run.proofs.runs.run_live.Goals as goal
 
 pub returns-clause-run : goal.returns-clause-run

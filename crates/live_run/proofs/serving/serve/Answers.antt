@@ -1,4 +1,4 @@
-use Rattle.std.proofs.Common.{◌≡◌, ◌∙◌, ℕ, List, [], false, ap, map, subst, sym}
+use Rattle.std.proofs.Common.{◌≡◌, ◌∙◌, ℕ, [], false, ap, map, subst, sym}
 use Rattle.std.specs.Arc.{arc_value}
 use Rattle.hist_lock.specs.Passes.{IsOf, own_turns}
 use Rattle.shared_group.specs.Turns.{GroupPass, SharedValue}
