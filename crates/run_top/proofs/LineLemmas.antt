@@ -9,8 +9,11 @@ use Rattle.ft_report.specs.Report.{report_text}
 use Rattle.ft_report.specs.declared.reports.ReportLine.{ReportLine}
 use Rattle.ft_world.specs.Acts.{act, act_first}
 use Rattle.ft_world.specs.Laws.{AllLater, KeepsEntries, ScriptsAcceptOnce, ScriptsKeepEntries, ServantsAreCalled, calls_from, or_end, worked, world_after}
+use Rattle.ft_world.specs.Leading.{DeliveriesAppendAtLeaders}
+use Rattle.ft_world.specs.LinkTelling.{InjectionsAppendAtLeaders, InjectionsTellOnce}
+use Rattle.ft_world.specs.Messages.{ScriptsReplyOnce}
 use Rattle.ft_world.specs.Replying.{DeliveriesTellOnce}
-use Rattle.run_top.specs.Lines.{RunsAcceptOnce, RunsAreOfLines, RunsCallServants, RunsKeepEntries, RunsTellOnce, in_front_read, lines_read, report_of, reports_from, script_lines, world_at}
+use Rattle.run_top.specs.Lines.{RunsAcceptOnce, RunsAppendAtLeaders, RunsAppendAtLeadersOnLinks, RunsAreOfLines, RunsCallServants, RunsKeepEntries, RunsReplyOnce, RunsTellOnce, RunsTellOnceOnLinks, in_front_read, lines_read, report_of, reports_from, script_lines, world_at}
 use Rattle.run_top.specs.Playing.{effect_of, printed_effect, rules}
 use Rattle.script_pieces.specs.Runs.{RunEffect, lines_of, onward, refusal, run_of_lines, script_limit, text_of}
 use Rattle.script_world.specs.World.{World, empty}
@@ -97,3 +100,15 @@ runs_call_servants law bytes = (runs_are_of_lines bytes).calls ∙ law (script_l
 
 pub runs_tell_once : DeliveriesTellOnce → RunsTellOnce
 runs_tell_once law bytes count k stop = law (world_at bytes count) k stop
+
+pub runs_tell_once_on_links : InjectionsTellOnce → RunsTellOnceOnLinks
+runs_tell_once_on_links law bytes count host link = law (world_at bytes count) host link
+
+pub runs_reply_once : ScriptsReplyOnce → RunsReplyOnce
+runs_reply_once law bytes count = law (take count (script_lines bytes))
+
+pub runs_append_at_leaders : DeliveriesAppendAtLeaders → RunsAppendAtLeaders
+runs_append_at_leaders law bytes count k stop = law (take count (script_lines bytes)) k stop
+
+pub runs_append_at_leaders_on_links : InjectionsAppendAtLeaders → RunsAppendAtLeadersOnLinks
+runs_append_at_leaders_on_links law bytes count host link = law (take count (script_lines bytes)) host link

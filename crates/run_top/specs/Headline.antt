@@ -131,9 +131,10 @@ pub record IsScriptEnd (status : ℕ) (before after : Outside) : Type 0 where
   pub unread : status ≡ 4 → WhereTold before (IsUnread (input before after) before after)
   pub broken : IfBroken status (WhereTold before (IsBroken (script_run (input before after)) before after))
 
--- `ftc run --make N`: the same of the script of N rounds, and nothing is read
+-- `ftc run --make N`: the same of the script of N rounds, of which no line is refused; and nothing is read
 pub record IsMadeEnd (status rounds : ℕ) (before after : Outside) : Type 0 where
-  pub done : IfEnded status (IsDone status (made_run rounds) before after)
+  pub unrefused : status ≢ 3
+  pub done : status ≡ 0 → IsDone status (made_run rounds) before after
   pub broken : IfBroken status (IsBroken (made_run rounds) before after)
   pub unread : after.left ≡ before.left
 

@@ -1,4 +1,5 @@
 -- The lines of a script, what a run of them prints, and the laws over lines as laws of runs.
+use Rattle.std.specs.List.{AllByRecursion}
 use Rattle.std.specs.Prelude.{◌≡◌, ℕ, ◌+◌, ◌++◌, nat_lt, if◌then◌else◌, flat_map, sum_by, List, [], ◌∷◌, length, take, Option, Some, None, Result, Ok, Err}
 use Rattle.fault_script.specs.Forms.{parse}
 use Rattle.fault_script.specs.declared.lines.Line.{Line}
@@ -8,6 +9,9 @@ use Rattle.ft_base.specs.declared.decisions.Stop.{Stop}
 use Rattle.ft_report.specs.Report.{report_text}
 use Rattle.ft_report.specs.declared.reports.ReportLine.{ReportLine}
 use Rattle.ft_world.specs.Acts.{act, act_first}
+use Rattle.ft_world.specs.Leading.{TurnAppendsAtLeader}
+use Rattle.ft_world.specs.LinkTelling.{IsInjected, PortAppendsAsLeader, PortTellsOnce}
+use Rattle.ft_world.specs.Messages.{RepliesOnce}
 use Rattle.ft_world.specs.Laws.{AllLater, EachOnce, KeepsEntries, calls_from, or_end, worked, world_after}
 use Rattle.ft_world.specs.Replying.{TurnTellsOnce}
 use Rattle.run_top.specs.Headline.{Run, script_run}
@@ -79,7 +83,29 @@ RunsCallServants = (bytes : List ℕ) →
     let gs = (last_world bytes).groups in
     (script_run bytes).calls ≡ sum_by entries_run gs + sum_by entries_caught_up gs + sum_by orders_applied gs
 
--- One reply: where the next line is a delivery that prints `append I` or `repeat I`, the reply below it is entry I's, unless
--- the host stopped.
+-- ---- one reply
+
+-- Where the next line is a delivery that prints `append I` or `repeat I`, the reply below it is entry I's, unless the host stopped.
 abbrev pub RunsTellOnce : Type 0
 RunsTellOnce = (bytes : List ℕ) (count k : ℕ) (stop : Stop) → TurnTellsOnce (act_first (world_at bytes count) (lines.Deliver k stop))
+
+-- Where it injects a link that prints so, the bytes of the Reply below are entry I's, if a Reply is sent.
+abbrev pub RunsTellOnceOnLinks : Type 0
+RunsTellOnceOnLinks = (bytes : List ℕ) (count host : ℕ) (link : List ℕ) →
+    let w = world_at bytes count in IsInjected host (PortTellsOnce host) link w (act_first w (lines.Inject host link))
+
+-- And every outcome that was ever replied is that of its own request's entry, after every line.
+abbrev pub RunsReplyOnce : Type 0
+RunsReplyOnce = (bytes : List ℕ) (count : ℕ) → let w = world_at bytes count in AllByRecursion (RepliesOnce w.groups w.messages) w.messages
+
+-- ---- who appends
+
+-- Where the next line is a delivery that prints `append I`, its host might append, and entry I was the next.
+abbrev pub RunsAppendAtLeaders : Type 0
+RunsAppendAtLeaders = (bytes : List ℕ) (count k : ℕ) (stop : Stop) →
+    let w = world_at bytes count in TurnAppendsAtLeader w.groups (act_first w (lines.Deliver k stop))
+
+-- Where it injects a link that prints so, the host might append what came there, and entry I was the next.
+abbrev pub RunsAppendAtLeadersOnLinks : Type 0
+RunsAppendAtLeadersOnLinks = (bytes : List ℕ) (count host : ℕ) (link : List ℕ) →
+    let w = world_at bytes count in IsInjected host (PortAppendsAsLeader host) link w (act_first w (lines.Inject host link))

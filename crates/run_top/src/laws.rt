@@ -1,10 +1,13 @@
 //! The laws of runs. The functions do nothing: their contracts are facts.
-ghost use Rattle.run_top.specs.Laws.{MadeRunsAreRuns};
-ghost use Rattle.run_top.specs.Lines.{RunsAcceptOnce, RunsAreOfLines, RunsCallServants, RunsKeepEntries, RunsTellOnce};
+ghost use Rattle.run_top.specs.Laws.{MadeRunsAreRuns, MadeRunsAreWhole};
+ghost use Rattle.run_top.specs.Lines.{RunsAcceptOnce, RunsAppendAtLeaders, RunsAppendAtLeadersOnLinks, RunsAreOfLines, RunsCallServants, RunsKeepEntries, RunsReplyOnce, RunsTellOnce, RunsTellOnceOnLinks};
 
 use ft_world::{
+    links_append_at_leaders, links_are_replied_once, only_leaders_append, replies_are_of_entries,
     requests_are_replied_once, scripts_accept_once, scripts_keep_entries, servants_are_called,
 };
+use made_lines::made_scripts_are_read;
+use made_worlds::made_scripts_go;
 
 /// A script prints what its lines print, one after another up to the first that is refused, and calls servants as
 /// they do, that line's calls included.
@@ -27,12 +30,27 @@ pub fn runs_keep_entries()
     scripts_keep_entries();
 }
 
-/// One reply: after any line of a script, a delivery that prints that a request was appended, or repeats an entry, prints
-/// that entry's one reply below it, unless the host stops.
+/// One reply. After any line of a script, where a delivery or a link prints that a request was appended, or repeats an entry,
+/// what is replied below is that entry's one reply: of a delivery unless the host stops, on a link where a Reply is wanted.
+/// And every outcome that was ever replied is that of its own request's entry.
 pub fn runs_tell_once()
-    ensures { RunsTellOnce }
+    ensures delivered { RunsTellOnce }
+    ensures injected { RunsTellOnceOnLinks }
+    ensures replied { RunsReplyOnce }
 {
     requests_are_replied_once();
+    links_are_replied_once();
+    replies_are_of_entries();
+}
+
+/// Who appends: after any line of a script, a delivery or a link that prints `append I` was at a host that is up and knows
+/// its group's newest view, as a member, and in a passive group as the primary; and entry I was the next.
+pub fn runs_append_at_leaders()
+    ensures delivered { RunsAppendAtLeaders }
+    ensures injected { RunsAppendAtLeadersOnLinks }
+{
+    only_leaders_append();
+    links_append_at_leaders();
 }
 
 /// The servant calls of a run are, in number, the accepted entries that were run, the entries that hosts caught up with,
@@ -48,3 +66,11 @@ pub fn runs_call_servants()
 pub fn made_runs_are_runs()
     ensures { MadeRunsAreRuns }
 {}
+
+/// No line of a script that is made is refused, of any number of rounds that `--make` takes.
+pub fn made_runs_are_whole()
+    ensures { MadeRunsAreWhole }
+{
+    made_scripts_are_read();
+    made_scripts_go();
+}

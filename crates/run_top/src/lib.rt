@@ -19,8 +19,8 @@ mod runs;
 mod words;
 
 pub use laws::{
-    made_runs_are_runs, runs_accept_once, runs_are_of_lines, runs_call_servants, runs_keep_entries,
-    runs_tell_once,
+    made_runs_are_runs, made_runs_are_whole, runs_accept_once, runs_append_at_leaders,
+    runs_are_of_lines, runs_call_servants, runs_keep_entries, runs_tell_once,
 };
 pub use playing::Script;
 pub use runs::ftc_run;

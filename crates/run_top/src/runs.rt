@@ -1,9 +1,10 @@
-ghost use Rattle.std.specs.Prelude.{◌≡◌, ◌≢◌, ◌⊎◌, IfOk};
+ghost use Rattle.std.specs.Prelude.{◌≡◌, ◌≢◌, ◌≤◌, ◌⊎◌, IfOk};
 ghost use Rattle.ft_outside.specs.Outside.{next_count};
 ghost use Rattle.run_ends.specs.Ends.{IfFault, IsTold, end_text};
 ghost use Rattle.run_ends.specs.declared.ends.ProgramFault.TheVariants as faults;
-ghost use Rattle.run_top.specs.Headline.{IfBroken, IfEnded, IsBroken, IsDone, IsProgramRun, IsStatus, made_run, refusal_text, sinks};
+ghost use Rattle.run_top.specs.Headline.{IfBroken, IsBroken, IsDone, IsProgramRun, IsStatus, made_run, refusal_text, sinks};
 
+use crate::laws::made_runs_are_whole;
 use crate::making::Made;
 use crate::playing::Script;
 use crate::words::{is_run, rounds_in};
@@ -51,12 +52,11 @@ fn run_made<B: Sink, E: Sink, L: Ledger>(
     err: &mut E,
     steps: &mut Steps<L>,
 ) -> u8
-    ensures statuses { IsStatus result }
-    ensures used { result ≢ 2 }
-    ensures unread { result ≢ 4 }
-    ensures done { IfEnded result (IsDone result (made_run rounds)
+    requires { rounds ≤ 50000 }
+    ensures statuses { (result ≡ 0) ⊎ ((result ≡ 5) ⊎ (result ≡ 6)) }
+    ensures done { result ≡ 0 → IsDone result (made_run rounds)
         (sinks (B.holds out.old) (B.count out.old) (E.holds err.old) (E.count err.old) steps.old)
-        (sinks (B.holds out.new) (B.count out.new) (E.holds err.new) (E.count err.new) steps.new)) }
+        (sinks (B.holds out.new) (B.count out.new) (E.holds err.new) (E.count err.new) steps.new) }
     ensures broken { IfBroken result (IsBroken (made_run rounds)
         (sinks (B.holds out.old) (B.count out.old) (E.holds err.old) (E.count err.old) steps.old)
         (sinks (B.holds out.new) (B.count out.new) (E.holds err.new) (E.count err.new) steps.new)) }
@@ -65,6 +65,7 @@ fn run_made<B: Sink, E: Sink, L: Ledger>(
     ensures fault_text { IfFault result (λ text.
         IsTold (E.holds err.old) (E.holds err.new) (E.count err.old) (E.count err.new) text) }
 {
+    made_runs_are_whole();
     let Ok(mut made) = Made::new(alloc, rounds) else {
         return end_by(err, ProgramFault::NoMemory);
     };
@@ -73,7 +74,7 @@ fn run_made<B: Sink, E: Sink, L: Ledger>(
     };
     match run_text(alloc, &mut made, script.bytes(), out, steps) {
         FeedResult::On => 0,
-        FeedResult::Refused(number, why) => refuse(alloc, err, number, why),
+        FeedResult::Refused(..) => unreachable!(),
         FeedResult::WriteFailed => end_by(err, ProgramFault::Write),
         FeedResult::NoMemory => end_by(err, ProgramFault::NoMemory),
     }
@@ -88,7 +89,7 @@ fn run_made<B: Sink, E: Sink, L: Ledger>(
 /// |---|---|
 /// | 0 | the script was read to its end, and all was written |
 /// | 2 | the words are of no form |
-/// | 3 | a line was refused |
+/// | 3 | a line was refused, which none of a script that is made is |
 /// | 4 | the source failed |
 /// | 5 | the sink of output failed |
 /// | 6 | out of memory |

@@ -1,5 +1,5 @@
 //! The words of the command line, behind the program's name.
-ghost use Rattle.std.specs.Prelude.{◌≡◌, ◌↔◌, ◌&&◌, codes, map, IsTrue, string_bytes};
+ghost use Rattle.std.specs.Prelude.{◌≡◌, ◌↔◌, ◌&&◌, ◌≤◌, codes, map, IfSome, IsTrue, string_bytes};
 ghost use Rattle.std.specs.Str.{bytes_eq};
 ghost use Rattle.run_top.specs.Words.{IsRun, rounds_asked, rounds_of};
 
@@ -20,7 +20,8 @@ pub(crate) fn is_run(words: &[String]) -> bool
 
 // A number of rounds.
 fn rounds_of(word: &[u8]) -> Option<u32>
-    ensures { result ≡ rounds_of word.now }
+    ensures spelled { result ≡ rounds_of word.now }
+    ensures few { IfSome result (λ rounds. rounds ≤ 50000) }
 {
     match read_number(word) {
         Some(number) if number != 0 && number <= ROUND_LIMIT => Some(number as u32),
@@ -36,7 +37,8 @@ fn is_make(first: &str, second: &str) -> bool
 
 /// The rounds of a script that is to be made, where the words are `run --make N`.
 pub(crate) fn rounds_in(words: &[String]) -> Option<u32>
-    ensures { result ≡ rounds_asked (map string_bytes words.now) }
+    ensures asked { result ≡ rounds_asked (map string_bytes words.now) }
+    ensures few { IfSome result (λ rounds. rounds ≤ 50000) }
 {
     match words {
         [first, second, third] if is_make(first.as_str(), second.as_str()) => rounds_of(
